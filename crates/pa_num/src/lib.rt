@@ -1,0 +1,8 @@
+//! What every layer shares: lists that contracts see as lists, want of memory, the shape of a refusal, bits and fields.
+#![tactic(auto)]
+
+mod fault;
+mod sequence;
+
+pub use fault::{Fault, ImageRule, Memory};
+pub use sequence::{Bytes, Name, Names, Sequence, Words};

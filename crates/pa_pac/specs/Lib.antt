@@ -1,0 +1,5 @@
+pub mod Fits
+pub mod Functions
+pub mod Key
+pub mod Log
+pub mod Signing

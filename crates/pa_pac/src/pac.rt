@@ -1,0 +1,99 @@
+ghost use Rattle.std.specs.Prelude.{◌≡◌, ◌<◌, ◌^◌, ℕ};
+ghost use Rattle.pa_pac.specs.declared.key.Key.{Key};
+ghost use Rattle.pa_pac.specs.Functions.{table_value};
+
+use crate::key::Key;
+use pa_num::Sequence;
+
+/// A function from a key, a pointer and a modifier to the authentication code of the pointer: any that gives numbers of
+/// 64 bits, and equal codes for equal arguments.
+pub trait Pac {
+    ghost code: { Self → Key → ℕ → ℕ → ℕ };
+
+    fn pac(&self, key: Key, pointer: u64, modifier: u64) -> u64
+        ensures { result ≡ code self.now key pointer modifier };
+
+    ghost fits: { (p : Self) (key : Key) (pointer modifier : ℕ) → pointer < 2 ^ 64 → modifier < 2 ^ 64 → code p key pointer modifier < 2 ^ 64 };
+}
+
+/// No code at all: every signature is the pointer itself.
+#[derive(Clone, Copy, Debug, PartialEq, Eq)]
+pub struct ZeroPac;
+
+impl Pac for ZeroPac {
+    ghost use Rattle.std.proofs.Common.{lit<};
+
+    ghost code = { λ _ _ _ _. 0 };
+
+    fn pac(&self, _: Key, _: u64, _: u64) -> u64 {
+        0
+    }
+
+    ghost fits = { λ _ _ _ _ _ _. lit< tt };
+}
+
+/// The exclusive or of the 16-bit parts of the pointer and the modifier and of the key's number, in bits 63 to 48: a code
+/// that is easy to compute by hand, and easy to forge.
+#[derive(Clone, Copy, Debug, PartialEq, Eq)]
+pub struct FoldPac;
+
+impl Pac for FoldPac {
+    ghost use Rattle.pa_pac.specs.Functions.{fold_value};
+    ghost use Rattle.pa_pac.specs.Fits.{fold_value-fits};
+
+    ghost code = { λ _. fold_value };
+
+    fn pac(&self, key: Key, pointer: u64, modifier: u64) -> u64 {
+        let x = pointer ^ modifier;
+        let folded = ((x & 0xFFFF) ^ (x >> 16 & 0xFFFF))
+            ^ ((x >> 32 & 0xFFFF) ^ (x >> 48 & 0xFFFF));
+        (folded ^ u64::from(key.number())) << 48
+    }
+
+    ghost fits = { λ _ key pointer modifier _ _. fold_value-fits key pointer modifier };
+}
+
+/// The code of one key, pointer and modifier.
+#[derive(Clone, Copy, Debug, PartialEq, Eq)]
+pub struct PacRow {
+    pub key: Key,
+    pub pointer: u64,
+    pub modifier: u64,
+    pub value: u64,
+}
+
+/// Rows in order.
+pub type PacRows = Sequence<PacRow>;
+
+/// The code of the first row with the key, pointer and modifier, and 0 where there is none. A run asks for finitely many
+/// codes, so what holds for every table holds for every function.
+#[derive(Debug, Drop)]
+pub struct TablePac {
+    pub rows: PacRows,
+}
+
+impl Pac for TablePac {
+    ghost use Rattle.pa_pac.specs.Functions.{table_value};
+    ghost use Rattle.pa_pac.specs.Fits.{table_value-fits};
+
+    ghost code = { λ p. table_value p.rows };
+
+    fn pac(&self, key: Key, pointer: u64, modifier: u64) -> u64 {
+        table_code(self.rows.as_slice(), key, pointer, modifier)
+    }
+
+    ghost fits = { λ p key pointer modifier _ _. table_value-fits p.rows key pointer modifier };
+}
+
+fn table_code(rows: &[PacRow], key: Key, pointer: u64, modifier: u64) -> u64
+    ensures { result ≡ table_value rows.now key pointer modifier }
+{
+    let mut rest = rows;
+    while let [row, tail @ ..] = rest {
+        if row.key == key && row.pointer == pointer && row.modifier == modifier {
+            return row.value;
+        }
+        rest = tail;
+    }
+    0
+}
