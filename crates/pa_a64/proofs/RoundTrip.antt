@@ -1,9 +1,10 @@
 -- Instructions and the words of their rows, both ways.
 use Rattle.std.proofs.Common.{◌≡◌, ◌≢◌, ℕ, ◌+◌, ◌-◌, ◌*◌, ◌/◌, ◌%◌, ◌^◌, ◌<◌, ◌≤◌, List, [], ◌∷◌, Option, Some, None, refl, sym, ap, subst, ◌∙◌, arith, rules, lit≤, lit<}
 use Rattle.std.specs.Prelude.{Bool, true, false, cond, not, eqb, ltb, IsTrue, ℤ}
+use mir.Val.{bool_byte}
 use Rattle.std.proofs.lemmas.Bool.{eqb-true, eq-eqb, false≢true, and_parts, ltb-true}
 use Rattle.std.proofs.lemmas.Nat.{pow-add, mul-add-lt}
-use Rattle.pa_num.specs.Bits.{with_field}
+use Rattle.pa_num.specs.Bits.{field, with_field}
 use Rattle.pa_a64.specs.declared.instr.Instr.{Instr}
 use Rattle.pa_a64.specs.declared.instr.AuthenticateOp.{AuthenticateOp}
 use Rattle.pa_a64.specs.declared.instr.BitfieldOp.{BitfieldOp}
@@ -274,3 +275,15 @@ encoded-puts i j base h e f =
 
 pub then_put : (low n : ℕ) {p q w x y : ℕ} → p ≡ with_field low n q x → q ≡ w → x ≡ y → p ≡ with_field low n w y
 then_put low n {p} {q} {w} {x} {y} e f g = e ∙ (ap (λ z. with_field low n z x) f ∙ ap (with_field low n w) g)
+
+-- how a `bool` becomes a number
+pub bit_of-bool : (b : Bool) → bool_byte b ≡ bit_of b
+bit_of-bool false = refl
+bit_of-bool true = refl
+
+-- the two fields that hold the pages of `adrp`
+pub pages_above : (bits n : ℕ) → bits < 2 ^ 21 → bits ≡ n → field 2 19 bits ≡ n / 4
+pages_above bits n h e = let f : bits / 4 % 524288 ≡ bits / 4 = omega arith in f ∙ ap (λ z. z / 4) e
+
+pub pages_below : (bits n : ℕ) → bits ≡ n → field 0 2 bits ≡ n % 4
+pages_below bits n e = let f : bits / 1 % 4 ≡ bits % 4 = omega arith in f ∙ ap (λ z. z % 4) e
