@@ -362,6 +362,12 @@ not_by_row r w ne = go (fields (parts r) w) refl
     go None e = refl
     go (Some xs) e = absurd (ne (masked-fields (parts r) w xs e))
 
+-- `ldp` of one register twice is of no row
+pub not_ldp : (w : ℕ) {x y : ℕ} → w < 2 ^ 32 → bit_and w (mask (parts (LoadStorePair LoadStorePairOp.Ldp))) ≡ fixed (parts (LoadStorePair LoadStorePairOp.Ldp)) → x ≡ field 0 5 w → y ≡ field 10 5 w → x ≡ y → decoded_by (LoadStorePair LoadStorePairOp.Ldp) w ≡ None
+not_ldp w {x} {y} l e f g h =
+    let same : eqb (field 0 5 w) (field 10 5 w) ≡ true = eq-eqb _ _ (sym f ∙ (h ∙ g)) in
+    by_row (LoadStorePair LoadStorePairOp.Ldp) w l e ∙ rw same refl
+
 row_matches : (r : Row) (w : ℕ) (i : Instr) → decoded_by r w ≡ Some i → Matches (pattern_of (parts r)) w
 unfolding decoded_by
 row_matches r w i e = go (fields (parts r) w) refl e
@@ -395,8 +401,8 @@ among_finds (q ∷ rs) (suc k) r w i d e h =
     missed c = clash_none q w (pattern_of (parts r)) (row_matches r w i h) (clash_at q rs k r c e)
 
 -- what the code finds: the k-th row of a list, whose fields it has got
-pub found : (rs : List Row) (k : ℕ) (r : Row) (w : ℕ) (xs : List ℕ) (i : Instr) → distinct rs ≡ true → row_at rs k ≡ Some r → w < 2 ^ 32 → bit_and w (mask (parts r)) ≡ fixed (parts r) → xs ≡ gets (line_places r) w → instruction r xs ≡ Some i → decoded_among rs w ≡ Some i
-found rs k r w xs i d at l e f g = among_finds rs k r w i d at (by_row r w l e ∙ (ap (instruction r) (sym f) ∙ g))
+pub found : (rs : List Row) → distinct rs ≡ true → (k : ℕ) (r : Row) → row_at rs k ≡ Some r → {w : ℕ} {xs : List ℕ} {i : Instr} → w < 2 ^ 32 → bit_and w (mask (parts r)) ≡ fixed (parts r) → xs ≡ gets (line_places r) w → instruction r xs ≡ Some i → Some i ≡ decoded_among rs w
+found rs d k r at {w} {xs} {i} l e f g = sym (among_finds rs k r w i d at (by_row r w l e ∙ (ap (instruction r) (sym f) ∙ g)))
 
 pub next : {x y : ℕ} {xs ys : List ℕ} → x ≡ y → xs ≡ ys → (x ∷ xs) ≡ (y ∷ ys)
 next {x} {y} {xs} {ys} e f = ap (λ z. z ∷ xs) e ∙ ap (λ zs. y ∷ zs) f
@@ -454,47 +460,73 @@ unfolding decoded_among
 among-none [] w h = refl
 among-none (r ∷ rs) w h = ap (λ (o : Option Instr). or_else o (decoded_among rs w)) h.0 ∙ among-none rs w h.1
 
--- No row of a list is left where these bits have a value that the list of values lacks.
+-- these bits leave some rows, of which none is the word's
+pub none_left : (rs : List Row) (low length : ℕ) (vs : List ℕ) (w : ℕ) {x : ℕ} → x ≡ field low length w → OneOf vs x → NoneBy (narrowed low length vs rs) w → None ≡ decoded_among rs w
+none_left rs low length vs w {x} e h n = sym (among-narrowed low length vs rs w (subst (OneOf vs) e h) ∙ among-none (narrowed low length vs rs) w n)
+
+-- No row of a list is left where these bits have a value that the lists of values lack.
+
+-- a number is in none of the lists
+abbrev pub Outside : List (List ℕ) → ℕ → Type 0
+Outside [] x = Unit {0}
+Outside (vs ∷ vss) x = (OneOf vs x → ⊥) × Outside vss x
 
 abbrev pub lists : List ℕ → ℕ → Bool
 lists [] x = false
-lists (a ∷ vs) x = eqb x a || lists vs x
+lists (v ∷ vs) x = eqb x v || lists vs x
 
-abbrev is_nil : List Row → Bool
+abbrev pub some_lists : List (List ℕ) → ℕ → Bool
+some_lists [] x = false
+some_lists (vs ∷ vss) x = lists vs x || some_lists vss x
+
+abbrev pub is_nil : List Row → Bool
 is_nil [] = true
 is_nil (r ∷ rs) = false
 
--- each value below n is in the list, or leaves no row
-abbrev pub all_listed : (low length : ℕ) → List ℕ → List Row → ℕ → Bool
-all_listed low length vs rs zero = true
-all_listed low length vs rs (suc n) = (lists vs n || is_nil (narrowed low length (n ∷ []) rs)) && all_listed low length vs rs n
+-- each value below n is in a list, or leaves no row
+abbrev pub all_listed : (low length : ℕ) → List (List ℕ) → List Row → ℕ → Bool
+all_listed low length vss rs zero = true
+all_listed low length vss rs (suc n) = (some_lists vss n || is_nil (narrowed low length (n ∷ []) rs)) && all_listed low length vss rs n
 
-abbrev pub NotOneOf : List ℕ → ℕ → Type 0
-NotOneOf [] x = Unit {0}
-NotOneOf (a ∷ vs) x = (x ≢ a) × NotOneOf vs x
-
-not_lists : (vs : List ℕ) (x : ℕ) → NotOneOf vs x → lists vs x ≡ false
+not_lists : (vs : List ℕ) (x : ℕ) → (OneOf vs x → ⊥) → lists vs x ≡ false
 not_lists [] x h = refl
-not_lists (a ∷ vs) x h = rw (ne_eqb x a h.0) (not_lists vs x h.1)
+not_lists (a ∷ []) x h = rw (ne_eqb x a h) refl
+not_lists (a ∷ (b ∷ vs)) x h = rw (ne_eqb x a (λ e. h (inl e))) (not_lists (b ∷ vs) x (λ o. h (inr o)))
 
-listed_at : (low length : ℕ) (vs : List ℕ) (rs : List Row) (n x : ℕ) → x < n → all_listed low length vs rs n ≡ true → (lists vs x || is_nil (narrowed low length (x ∷ []) rs)) ≡ true
-listed_at low length vs rs zero x lt e = absurd (omega arith)
-listed_at low length vs rs (suc n) x lt e = go (λ l. listed_at low length vs rs n x l (and_parts _ _ e).1) (eqb x n) refl
+not_some_lists : (vss : List (List ℕ)) (x : ℕ) → Outside vss x → some_lists vss x ≡ false
+not_some_lists [] x h = refl
+not_some_lists (vs ∷ vss) x h = rw (not_lists vs x h.0) (not_some_lists vss x h.1)
+
+listed_at : (low length : ℕ) (vss : List (List ℕ)) (rs : List Row) (n x : ℕ) → x < n → all_listed low length vss rs n ≡ true → (some_lists vss x || is_nil (narrowed low length (x ∷ []) rs)) ≡ true
+listed_at low length vss rs zero x lt e = absurd (omega arith)
+listed_at low length vss rs (suc n) x lt e = go (λ l. listed_at low length vss rs n x l (and_parts _ _ e).1) (eqb x n) refl
   where
-    go : (x < n → (lists vs x || is_nil (narrowed low length (x ∷ []) rs)) ≡ true) → (b : Bool) → eqb x n ≡ b → (lists vs x || is_nil (narrowed low length (x ∷ []) rs)) ≡ true
-    go ih true t = subst (λ z. (lists vs z || is_nil (narrowed low length (z ∷ []) rs)) ≡ true) (sym (eqb-true x n t)) (and_parts _ _ e).0
+    go : (x < n → (some_lists vss x || is_nil (narrowed low length (x ∷ []) rs)) ≡ true) → (b : Bool) → eqb x n ≡ b → (some_lists vss x || is_nil (narrowed low length (x ∷ []) rs)) ≡ true
+    go ih true t = subst (λ z. (some_lists vss z || is_nil (narrowed low length (z ∷ []) rs)) ≡ true) (sym (eqb-true x n t)) (and_parts _ _ e).0
     go ih false t = let ne : x ≢ n = λ q. true≢false (sym (eq-eqb x n q) ∙ t) in ih (omega arith)
 
-pub among-unlisted : (low length : ℕ) (vs : List ℕ) (rs : List Row) (w : ℕ) → all_listed low length vs rs (2 ^ length) ≡ true → NotOneOf vs (field low length w) → decoded_among rs w ≡ None
+among-unlisted : (low length : ℕ) (vss : List (List ℕ)) (rs : List Row) (w : ℕ) → all_listed low length vss rs (2 ^ length) ≡ true → Outside vss (field low length w) → decoded_among rs w ≡ None
 unfolding decoded_among
-among-unlisted low length vs rs w all h = among-narrowed low length (field low length w ∷ []) rs w refl ∙ go (narrowed low length (field low length w ∷ []) rs) nil
+among-unlisted low length vss rs w all h = among-narrowed low length (field low length w ∷ []) rs w refl ∙ go (narrowed low length (field low length w ∷ []) rs) nil
   where
     nil : is_nil (narrowed low length (field low length w ∷ []) rs) ≡ true
     nil =
-        let e = listed_at low length vs rs (2 ^ length) (field low length w) (mod_below (w / 2 ^ low) (2 ^ length) (pow_pos length)) all in
-        let n = not_lists vs (field low length w) h in
-        subst (λ z. (z || is_nil (narrowed low length (field low length w ∷ []) rs)) ≡ true) n e
-
+        let e = listed_at low length vss rs (2 ^ length) (field low length w) (mod_below (w / 2 ^ low) (2 ^ length) (pow_pos length)) all in
+        subst (λ z. (z || is_nil (narrowed low length (field low length w ∷ []) rs)) ≡ true) (not_some_lists vss (field low length w) h) e
     go : (qs : List Row) → is_nil qs ≡ true → decoded_among qs w ≡ None
     go [] e = refl
     go (q ∷ qs) e = cc
+
+pub none_listed : (rs : List Row) (low length : ℕ) (vss : List (List ℕ)) → all_listed low length vss rs (2 ^ length) ≡ true → (w : ℕ) {x : ℕ} → x ≡ field low length w → Outside vss x → None ≡ decoded_among rs w
+none_listed rs low length vss all w {x} e h = sym (among-unlisted low length vss rs w all (subst (Outside vss) e h))
+
+-- these bits leave the same rows of a part as of the whole table
+pub whole_table : (qs : List Row) (low length : ℕ) (vs : List ℕ) → narrowed low length vs qs ≡ narrowed low length vs rows → (w : ℕ) {x : ℕ} → x ≡ field low length w → OneOf vs x → decoded_among qs w ≡ decoded w
+unfolding decoded
+whole_table qs low length vs same w {x} e h =
+    let at = subst (OneOf vs) e h in
+    among-narrowed low length vs qs w at ∙ (ap (λ z. decoded_among z w) same ∙ sym (among-narrowed low length vs rows w at))
+
+pub none_in_table : (low length : ℕ) (vss : List (List ℕ)) → all_listed low length vss rows (2 ^ length) ≡ true → (w : ℕ) {x : ℕ} → x ≡ field low length w → Outside vss x → None ≡ decoded w
+unfolding decoded
+none_in_table low length vss all w {x} e h = none_listed rows low length vss all w {x = x} e h

@@ -1,5 +1,6 @@
 -- Signed fields as two's complement of their width.
-use Rattle.std.proofs.Common.{◌≡◌, ℕ, suc, ◌+◌, ◌-◌, ◌*◌, ◌/◌, ◌%◌, ◌^◌, ◌<◌, ◌≤◌, ℤ, refl, sym, ap, ◌∙◌, arith, w32, w64, to_z, of_z, SFits}
+use Rattle.std.proofs.Common.{◌≡◌, ℕ, suc, ◌+◌, ◌-◌, ◌*◌, ◌/◌, ◌%◌, ◌^◌, ◌<◌, ◌≤◌, ℤ, refl, sym, ap, subst, ◌∙◌, arith, w32, w64, to_z, of_z, SFits}
+use mir.Val.{hbits}
 use Rattle.std.specs.Prelude.{Bool, true, false, cond, eqb, ltb, pos, negsuc}
 use Rattle.std.specs.Int.{bit_at}
 use mir.Syntax.{Width}
@@ -92,3 +93,20 @@ bits-passed w length z f = ap (bits_of_signed length) (to_z-of_z w z f)
 
 pub bits-widened : (w : Width) (length : ℕ) (y z : ℤ) → SFits w z → SFits w32 y → y ≡ to_z w (of_z w z) → bits_of_signed length (to_z w32 (of_z w32 y)) ≡ bits_of_signed length z
 bits-widened w length y z f g e = bits-passed w32 length y g ∙ (ap (bits_of_signed length) e ∙ bits-passed w length z f)
+
+half_below : (w : Width) (length : ℕ) → length ≤ hbits w + 1 → 2 ^ (length - 1) ≤ 2 ^ hbits w
+half_below w length h = pow-le-pow_right {n = 2} (omega arith) (let f : length - 1 ≤ hbits w = omega arith in f)
+
+SFits-within : (w : Width) (length : ℕ) (z : ℤ) → length ≤ hbits w + 1 → IsSigned length z → SFits w z
+SFits-within w length (pos n) l f = record { sfits = omega (arith, half_below w length l) }
+SFits-within w length (negsuc n) l f = record { sfits = omega (arith, half_below w length l) }
+
+-- a field's number, taken as signed and narrowed to its type
+pub signed-got : (w : Width) (length : ℕ) (z : ℤ) (bits : ℕ) → 1 ≤ length → length ≤ hbits w + 1 → z ≡ signed_of_bits length bits → bits < 2 ^ length → to_z w (of_z w z) ≡ signed_of_bits length bits
+signed-got w length z bits h l e f =
+    to_z-of_z w z (SFits-within w length z l (subst (IsSigned length) (sym e) (IsSigned-signed length bits h f))) ∙ e
+
+pub signed-narrowed : (w : Width) (length : ℕ) (z : ℤ) (bits : ℕ) → 1 ≤ length → length ≤ hbits w + 1 → length ≤ 32 → z ≡ signed_of_bits length bits → bits < 2 ^ length → to_z w (of_z w (to_z w32 (of_z w32 z))) ≡ signed_of_bits length bits
+signed-narrowed w length z bits h l m e f =
+    let fits = subst (IsSigned length) (sym e) (IsSigned-signed length bits h f) in
+    ap (λ v. to_z w (of_z w v)) (to_z-of_z w32 z (SFits-within w32 length z m fits)) ∙ signed-got w length z bits h l e f

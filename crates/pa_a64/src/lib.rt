@@ -1,12 +1,14 @@
 //! The A64 instructions of the machine: one table of rows, from words to instructions and back.
 #![tactic(auto)]
 
+mod decoding;
 mod encoding;
 mod instr;
 
 mod signed;
 mod table;
 
+pub use decoding::decode;
 pub use encoding::{encode, in_range};
 pub use instr::{
     AuthenticateOp, BitfieldOp, BranchAuthenticatedOp, BranchOp, BranchRegisterOp, CompareBranchOp,
