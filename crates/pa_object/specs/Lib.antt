@@ -1,0 +1,4 @@
+pub mod Effects
+pub mod Machine
+pub mod Run
+pub mod Traps
