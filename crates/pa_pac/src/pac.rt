@@ -62,6 +62,16 @@ pub struct PacRow {
     pub value: u64,
 }
 
+impl PacRow {
+    ghost use Rattle.pa_pac.specs.Functions.{is_for};
+
+    fn is_for(&self, key: Key, pointer: u64, modifier: u64) -> bool
+        ensures { result ≡ is_for self.now key pointer modifier }
+    {
+        self.key == key && self.pointer == pointer && self.modifier == modifier
+    }
+}
+
 /// Rows in order.
 pub type PacRows = Sequence<PacRow>;
 
@@ -89,8 +99,8 @@ fn table_code(rows: &[PacRow], key: Key, pointer: u64, modifier: u64) -> u64
     ensures { result ≡ table_value rows.now key pointer modifier }
 {
     let mut rest = rows;
-    while let [row, tail @ ..] = rest {
-        if row.key == key && row.pointer == pointer && row.modifier == modifier {
+    while let Some((row, tail)) = rest.split_first() {
+        if row.is_for(key, pointer, modifier) {
             return row.value;
         }
         rest = tail;
