@@ -2,7 +2,7 @@
 use Rattle.std.proofs.Common.{◌≡◌, ◌≢◌, ℕ, zero, suc, ◌+◌, ◌-◌, ◌<◌, ◌≤◌, Bool, true, false, cond, eqb, List, [], ◌∷◌, ◌++◌, length, refl, sym, ap, subst, ◌∙◌, arith, Option, Some, None, zero-add, if◌then◌else◌}
 use Rattle.std.specs.Prelude.{◌&&◌, ◌||◌}
 use Rattle.std.proofs.lemmas.Bool.{eq-eqb, ne_eqb, or_left, or_right, and_from}
-use Rattle.std.proofs.lemmas.List.{length-append}
+use Rattle.std.proofs.lemmas.List.{length-append, append_assoc}
 use Rattle.pa_pac.specs.Key.{key_number, same_key}
 use Rattle.pa_mem.specs.Memory.{fetch}
 use Rattle.pa_pac.specs.declared.key.Key.{Key}
@@ -107,3 +107,40 @@ unfolding shape
 shape-more got front trail [] h = refl
 shape-more got front trail (entry ∷ log) h =
     rw (shown-more got front trail entry.when entry.event log h.0, shape-more got front trail log h.1)
+
+-- ---- the entries of a function that is entered and left
+
+-- signing under IB enters the function
+pub shape-enter : (got : List ℕ) (trail : List Place) (number modifier raw signed : ℕ) (log : Log)
+    → shape got trail (record { when = moment.Step number; event = event.Sign IB modifier raw signed } ∷ log) ≡ Enter (place_of trail number) ∷ shape got trail log
+unfolding shape
+shape-enter got trail number modifier raw signed log = refl
+
+-- a return shows nothing
+pub shape-return : (got : List ℕ) (trail : List Place) (first second : When) (modifier raw target : ℕ) (known : Bool) (log : Log)
+    → shape got trail (record { when = first; event = event.Land way.Return target } ∷ record { when = second; event = event.Take IB modifier raw known } ∷ log) ≡ shape got trail log
+unfolding shape
+shape-return got trail first second modifier raw target known log = refl
+
+pub all_known-enter : (when : When) (key : Key) (modifier raw signed : ℕ) (log : Log) → all_known log ≡ true → all_known (record { when = when; event = event.Sign key modifier raw signed } ∷ log) ≡ true
+unfolding all_known
+all_known-enter when key modifier raw signed log h = h
+
+pub all_known-return : (first second : When) (key : Key) (modifier raw target : ℕ) (known : Bool) (log : Log) → known ≡ true → all_known log ≡ true
+    → all_known (record { when = first; event = event.Land way.Return target } ∷ record { when = second; event = event.Take key modifier raw known } ∷ log) ≡ true
+unfolding all_known
+all_known-return first second key modifier raw target known log e h = and_from _ _ e h
+
+-- a function that was entered and left again shows that it was entered
+pub shape-called : (got : List ℕ) (front : List Place) (entry : Place) (middle trail : List Place) (number modifier raw signed : ℕ) (first second : When) (target : ℕ) (known : Bool) (log : Log)
+    → number ≡ length (middle ++ trail) → AreBefore (length trail) log
+    → shape got (front ++ entry ∷ (middle ++ trail)) (record { when = first; event = event.Land way.Return target } ∷ record { when = second; event = event.Take IB modifier raw known } ∷ record { when = moment.Step number; event = event.Sign IB modifier raw signed } ∷ log)
+        ≡ Enter entry.at ∷ shape got trail log
+shape-called got front entry middle trail number modifier raw signed first second target known log e h =
+    let longer = front ++ entry ∷ (middle ++ trail) in
+    let parts : front ++ entry ∷ (middle ++ trail) ≡ (front ++ entry ∷ middle) ++ trail = sym (append_assoc front (entry ∷ middle) trail) in
+    let earlier : shape got longer log ≡ shape got trail log = ap (λ x. shape got x log) parts ∙ shape-more got (front ++ entry ∷ middle) trail log h in
+    shape-return got longer first second modifier raw target known _
+    ∙ shape-enter got longer number modifier raw signed log
+    ∙ ap (λ at. Enter at ∷ shape got longer log) (place_of-here front entry (middle ++ trail) number e)
+    ∙ ap (λ x. Enter entry.at ∷ x) earlier

@@ -1,1 +1,3 @@
+mod MemoryStandIn
+pub mod Calls
 mod SourceLaws
