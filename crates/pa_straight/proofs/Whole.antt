@@ -25,7 +25,7 @@ use Rattle.pa_object.proofs.Placed.{Stands, HasCode, HasCode-append, HasCode-sam
 use Rattle.pa_object.proofs.Steps.{register-set, watching, here, reach, no_step, movz_step, movk_step, add_sp_step, sub_sp_step, stp_sp_step, ldp_sp_step, bl_step, pacibsp_step, retab_step, exit_step, add64_small, scaled64_small}
 use Rattle.pa_object.proofs.StepsRun.{watched-then, watched-ended, is_known-more, is_known-sign, AreBefore, AreBefore-more, place_of-here, shape-more, shape-enter, shape-return, all_known-enter, all_known-return}
 use Rattle.pa_straight.specs.Block.{start, prologue, epilogue, calls, putchar, instructions}
-use Rattle.pa_straight.proofs.MemoryStandIn.{allowed-store, load-store-same, fetch-store}
+use Rattle.pa_mem.proofs.Ranges.{allowed-store, load-store-allowed, fetch-store-other}
 use Rattle.pa_straight.proofs.Calls.{IsReady, Leads, Printed, leads-then, calls_run, two_parts}
 
 -- ---- the beginning
@@ -169,7 +169,7 @@ pub record Begins (m : Machine) (s : Straight) : Type 0 where
   pub reads : (at : ℕ) → m.sp - 16 ≤ at → at + 8 ≤ m.sp → allowed Read m.memory at 8 ≡ true
   pub writes : (at : ℕ) → m.sp - 16 ≤ at → at + 8 ≤ m.sp → allowed Write m.memory at 8 ≡ true
 
-length-calls : (ns : List ℕ) → length (calls ns) ≡ 3 * length ns
+pub length-calls : (ns : List ℕ) → length (calls ns) ≡ 3 * length ns
 length-calls [] = refl
 length-calls (n ∷ ns) = let more = length-calls ns in omega arith
 
@@ -183,7 +183,7 @@ allowed-saved right memory at v w c = allowed-store 8 right (store 8 memory at v
 HasCode-saved : (memory : List Region) (at v w : ℕ) (place : ℕ) (is : List Instr) → place + 4 * length is ≤ at → HasCode memory place is → HasCode (saved memory at v w) place is
 HasCode-saved memory at v w place is below c =
     HasCode-same memory (saved memory at v w) place is
-    (λ p low high. fetch-store 8 (store 8 memory at v) (at + 8) w p (λ h. omega arith) ∙ fetch-store 8 memory at v p (λ h. omega arith)) c
+    (λ p low high. fetch-store-other 8 (store 8 memory at v) (at + 8) w p (λ h. omega arith) ∙ fetch-store-other 8 memory at v p (λ h. omega arith)) c
 
 no_shape : shape [] [] [] ≡ []
 unfolding shape
@@ -294,8 +294,9 @@ saved_word code m s b made =
     let w = sign code IB m.sp (m.pc + 4) in
     let may : allowed Write (store 8 m.memory at v) (at + 8) 8 ≡ true = allowed-store 8 Write m.memory at v (at + 8) 8 ∙ b.writes (at + 8) (omega arith) (omega arith) in
     let fits : w < 2 ^ 64 = sign-lt code IB m.sp (m.pc + 4) (omega arith) in
+    let whole : w % 256 ^ 8 ≡ w = omega arith in
     ap (λ x. load 8 x (made.later.sp + 8 * 0 + 8)) made.memory ∙ ap (λ sp. load 8 (saved m.memory at v w) (sp + 8 * 0 + 8)) made.sp
-    ∙ load-store-same 8 Write (store 8 m.memory at v) (at + 8) w may fits
+    ∙ load-store-allowed Write 8 (store 8 m.memory at v) (at + 8) w may ∙ whole
 
 may_read : (code : Code) (m : Machine) (s : Straight) → Begins m s → (made : Called code m s) → (at : ℕ) → m.sp - 16 ≤ at → at + 8 ≤ m.sp → allowed Read made.later.memory at 8 ≡ true
 may_read code m s b made at low high =
