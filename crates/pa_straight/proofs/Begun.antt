@@ -24,7 +24,6 @@ use Rattle.pa_straight.specs.declared.source.Straight.{Straight}
 use Rattle.pa_straight.specs.Source.{IsSource}
 use Rattle.pa_straight.specs.Block.{start, prologue, call, calls, epilogue, putchar, instructions, words_of, base, main_place, putchar_place, blank, memory_of, begun}
 use Rattle.pa_straight.specs.Shows.{steps, unrun, Shows, Runs}
-use Rattle.pa_straight.proofs.Calls.{IsReady}
 use Rattle.pa_straight.proofs.Whole.{Begins, Finished, finish, length-calls}
 
 -- ---- the instructions' fields
@@ -158,9 +157,8 @@ begins s source =
 status_of : (n : ℕ) → n < 2 ^ 31 → cast_signed w32 (n % 2 ^ 32) ≡ pos n
 status_of n h = let low : n % 2 ^ 32 ≡ n = omega arith in ap (cast_signed w32) low ∙ to_z_pos w32 n h
 
-shows_of : (code : Code) (s : Straight) (k : ℕ) → s.returns < 2 ^ 31 → (m : Machine) → (done : Finished code m s) → m.pc ≡ base → (w : Watched) → w ≡ watching done.later done.longer → Shows s w
-shows_of code s k small m done place w e =
-    let out = done.output in
+shows_of : (code : Code) (s : Straight) → s.returns < 2 ^ 31 → (m : Machine) → (done : Finished code m s) → m.pc ≡ base → (w : Watched) → w ≡ watching done.later done.longer → Shows s w
+shows_of code s small m done place w e =
     subst (Shows s) (sym e) (record {
       output = done.output;
       end = done.ended ∙ ap (λ x. Some (Exit x)) (status_of s.returns small);
@@ -181,6 +179,22 @@ runs s source code n enough =
     let done = finish code (begun (words_of s)) s (begins s source) (prints-small s source) (let small = source.status in omega arith) in
     let whole : n - 0 ≡ n = omega arith in
     (
-        shows_of code s 0 source.status (begun (words_of s)) done refl _ (stays code s (begun (words_of s)) n done enough),
+        shows_of code s source.status (begun (words_of s)) done refl _ (stays code s (begun (words_of s)) n done enough),
         ap (λ k. advance_by code [] k (begun (words_of s))) whole ∙ sym (watched-machine code [] n (unrun (begun (words_of s))))
     )
+
+-- ---- what `Space::add` asks
+
+pub apart_none : (one : Region) (regions : List Region) → regions ≡ [] → apart_from_all one regions ≡ true
+unfolding apart_from_all
+apart_none one regions e = ap (apart_from_all one) e
+
+pub apart_stack : (words code zeros : List ℕ) (none regions : List Region) → length words ≤ 2 ^ 20 → code ≡ flat_map (to_le_bytes w32) words → zeros ≡ blank 0x80_0000 → none ≡ []
+    → regions ≡ none ++ record { base = base; bytes = code; reads = true; writes = false; runs = true } ∷ []
+    → apart_from_all (record { base = 0x1_6F80_0000; bytes = zeros; reads = true; writes = true; runs = false }) regions ≡ true
+unfolding apart_from_all
+apart_stack words code zeros none regions few e f n g =
+    let size : length code ≡ 4 * length words = ap length e ∙ length-bytes words in
+    let below : min (0x1_6F80_0000 + length zeros) (base + length code) ≤ max 0x1_6F80_0000 base = omega arith in
+    let one : regions ≡ record { base = base; bytes = code; reads = true; writes = false; runs = true } ∷ [] = g ∙ ap (λ x. x ++ record { base = base; bytes = code; reads = true; writes = false; runs = true } ∷ []) n in
+    ap (apart_from_all (record { base = 0x1_6F80_0000; bytes = zeros; reads = true; writes = true; runs = false })) one ∙ and_from _ _ (le-leb _ _ below) refl
