@@ -2,4 +2,3 @@ pub mod Placed
 pub mod Steps
 pub mod StepsLeads
 pub mod StepsRun
-pub mod WordSizes
