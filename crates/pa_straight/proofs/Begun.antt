@@ -1,7 +1,7 @@
 -- The machine at the beginning, and what its run shows.
-use Rattle.std.proofs.Common.{◌≡◌, ℕ, zero, suc, ◌+◌, ◌-◌, ◌*◌, ◌/◌, ◌%◌, ◌^◌, ◌<◌, ◌≤◌, min, max, Bool, true, false, List, [], ◌∷◌, ◌++◌, length, map, take, drop, refl, sym, ap, subst, ◌∙◌, arith, Some, None, length-append}
-use Rattle.std.specs.Prelude.{pos, ◌&&◌, ◌||◌}
-use Rattle.std.specs.List.{flat_map, All, AllByRecursion}
+use Rattle.std.proofs.Common.{◌≡◌, ℕ, ◌+◌, ◌-◌, ◌*◌, ◌%◌, ◌^◌, ◌<◌, ◌≤◌, min, max, true, false, List, [], ◌∷◌, ◌++◌, length, map, take, refl, sym, ap, subst, ◌∙◌, arith, Some, length-append}
+use Rattle.std.specs.Prelude.{pos}
+use Rattle.std.specs.List.{flat_map, AllByRecursion}
 use Rattle.std.specs.Int.{w32, to_le_bytes, cast_signed}
 use Rattle.std.proofs.lemmas.Int.{to_z_pos}
 use Rattle.std.proofs.Math.Seq.{take-length}
@@ -9,20 +9,19 @@ use Rattle.std.proofs.lemmas.Bool.{le-leb, and_from, or_left, or_right}
 use Rattle.std.proofs.lemmas.List.{length-map, length-replicate}
 use Rattle.std.proofs.lemmas.List.Elements.{recursion_from_All}
 use Rattle.pa_pac.specs.Signing.{Code}
-use Rattle.pa_a64.specs.declared.instr.Instr.{Instr}
 use Rattle.pa_a64.specs.Decoding.{InRange, encoded}
 use Rattle.pa_mem.specs.Memory.{Region, Right, has, Read, Write, Run, allowed, bytes_at, apart_from_all, all_apart}
 use Rattle.pa_mem.proofs.Apart.{IsAt, bytes_at-region}
 use Rattle.pa_object.specs.declared.end.End.TheVariants.{Exit}
 use Rattle.pa_object.specs.Machine.{Machine}
-use Rattle.pa_object.specs.Run.{Place, Watched, watched, run, advance_by}
-use Rattle.pa_object.specs.Shape.{shape, Enter, all_known}
+use Rattle.pa_object.specs.Run.{Watched, watched, advance_by}
+use Rattle.pa_object.specs.Shape.{Enter, all_known}
 use Rattle.pa_object.proofs.Placed.{HasCode, HasCode-bytes}
 use Rattle.pa_object.proofs.Steps.{watching}
 use Rattle.pa_object.proofs.StepsRun.{watched-then, watched-machine, watched-ended}
 use Rattle.pa_straight.specs.declared.source.Straight.{Straight}
 use Rattle.pa_straight.specs.Source.{IsSource}
-use Rattle.pa_straight.specs.Block.{start, prologue, call, calls, epilogue, putchar, instructions, words_of, base, main_place, putchar_place, blank, memory_of, begun}
+use Rattle.pa_straight.specs.Block.{start, prologue, call, calls, epilogue, putchar, instructions, words_of, base, blank, memory_of, begun}
 use Rattle.pa_straight.specs.Shows.{steps, unrun, Shows, Runs}
 use Rattle.pa_straight.proofs.Whole.{Begins, Finished, finish, length-calls}
 

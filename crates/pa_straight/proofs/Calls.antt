@@ -1,23 +1,21 @@
 -- A call of `_putchar` with a number, and all of them.
-use Rattle.std.proofs.Common.{◌≡◌, ℕ, zero, suc, ◌+◌, ◌-◌, ◌*◌, ◌/◌, ◌%◌, ◌^◌, ◌<◌, ◌≤◌, Bool, true, false, cond, eqb, ltb, List, [], ◌∷◌, ◌++◌, length, map, get_or, set, refl, sym, ap, subst, ◌∙◌, arith, Option, Some, None, length-set}
-use Rattle.std.specs.Prelude.{pos, ◌&&◌}
+use Rattle.std.proofs.Common.{◌≡◌, ℕ, suc, ◌+◌, ◌*◌, ◌/◌, ◌%◌, ◌^◌, ◌<◌, true, List, [], ◌∷◌, ◌++◌, length, map, refl, sym, ap, subst, ◌∙◌, arith, Some, length-set}
+use Rattle.std.specs.Prelude.{pos}
 use Rattle.std.proofs.lemmas.List.{append-nil, append_assoc}
 use Rattle.std.specs.List.{AllByRecursion}
 use Rattle.pa_num.specs.Arithmetic.{add64, scaled64, with_part}
 use Rattle.pa_pac.specs.declared.key.Key.{Key}
 use Rattle.pa_pac.specs.declared.key.Key.TheVariants.{IB}
-use Rattle.pa_pac.specs.Log.{Log, is_known}
+use Rattle.pa_pac.specs.Log.{is_known}
 use Rattle.pa_pac.specs.Signing.{Code, sign, auth}
 use Rattle.pa_pac.proofs.Laws.{auth-sign, canonical-user}
-use Rattle.pa_a64.specs.declared.instr.Instr.{Instr}
-use Rattle.pa_mem.specs.Memory.{Region}
 use Rattle.pa_object.specs.Machine.{Machine}
-use Rattle.pa_object.specs.Run.{Place, Watched, watched}
-use Rattle.pa_object.specs.Shape.{Shown, Enter, shape, all_known}
-use Rattle.pa_object.proofs.Placed.{Stands, HasCode, HasCode-append}
-use Rattle.pa_object.proofs.Steps.{register-set, watching, here, reach, no_step, movz_step, movk_step, bl_step, pacibsp_step, print_step, retab_step, add64_small, scaled64_small}
+use Rattle.pa_object.specs.Run.{Place, watched}
+use Rattle.pa_object.specs.Shape.{Shown, Enter, shape}
+use Rattle.pa_object.proofs.Placed.{HasCode, HasCode-append}
+use Rattle.pa_object.proofs.Steps.{register-set, watching, reach, no_step, movz_step, movk_step, bl_step, pacibsp_step, print_step, retab_step, add64_small, scaled64_small}
 use Rattle.pa_object.proofs.StepsLeads.{IsReady, Leads, leads-then, no_leads}
-use Rattle.pa_object.proofs.StepsRun.{is_known-more, is_known-sign, AreBefore, AreBefore-more, place_of-here, shape-called, all_known-enter, all_known-return}
+use Rattle.pa_object.proofs.StepsRun.{is_known-more, is_known-sign, AreBefore-more, shape-called, all_known-enter, all_known-return}
 use Rattle.pa_straight.specs.Block.{call, calls, putchar}
 
 pub two_parts : (n : ℕ) → n < 2 ^ 32 → with_part (n % 65536 * 2 ^ (16 * 0)) 1 (n / 65536) ≡ n

@@ -1,29 +1,27 @@
 -- The whole run of a program of the first form.
-use Rattle.std.proofs.Common.{◌≡◌, ℕ, zero, suc, ◌+◌, ◌-◌, ◌*◌, ◌/◌, ◌%◌, ◌^◌, ◌<◌, ◌≤◌, Bool, true, false, cond, eqb, ltb, List, [], ◌∷◌, ◌++◌, length, map, get_or, set, refl, sym, ap, subst, ◌∙◌, arith, Option, Some, None, length-set}
-use Rattle.std.specs.Prelude.{pos, ◌&&◌}
-use Rattle.std.proofs.lemmas.List.{append-nil, append_assoc}
+use Rattle.std.proofs.Common.{◌≡◌, ℕ, ◌+◌, ◌-◌, ◌*◌, ◌/◌, ◌%◌, ◌^◌, ◌<◌, ◌≤◌, true, List, [], ◌∷◌, ◌++◌, length, map, get_or, refl, sym, ap, subst, ◌∙◌, arith, Some, length-set}
+use Rattle.std.specs.Prelude.{pos}
+use Rattle.std.proofs.lemmas.List.{append-nil}
 use Rattle.std.specs.List.{AllByRecursion}
 use Rattle.std.specs.Int.{w32, cast_signed}
-use Rattle.pa_num.specs.Arithmetic.{add64, scaled64, with_part}
+use Rattle.pa_num.specs.Arithmetic.{add64, scaled64}
 use Rattle.pa_pac.specs.declared.key.Key.{Key}
 use Rattle.pa_pac.specs.declared.key.Key.TheVariants.{IB}
-use Rattle.pa_pac.specs.Log.{Log, is_known}
-use Rattle.pa_pac.specs.declared.event.Event.TheVariants as event
-use Rattle.pa_pac.specs.declared.event.When.TheVariants.{Step}
+use Rattle.pa_pac.specs.Log.{is_known}
 use Rattle.pa_pac.specs.Signing.{Code, sign, auth}
 use Rattle.pa_pac.proofs.Laws.{auth-sign, sign-lt, canonical-user}
 use Rattle.pa_a64.specs.declared.instr.Instr.{Instr}
 use Rattle.pa_a64.specs.declared.instr.Instr.TheVariants.{Exception}
 use Rattle.pa_a64.specs.declared.instr.ExceptionOp.TheVariants.{Svc}
 use Rattle.pa_straight.specs.declared.source.Straight.{Straight}
-use Rattle.pa_mem.specs.Memory.{Region, Right, Read, Write, allowed, load, store, fetch}
+use Rattle.pa_mem.specs.Memory.{Region, Right, Read, Write, allowed, load, store}
 use Rattle.pa_object.specs.declared.end.End.TheVariants.{Exit}
 use Rattle.pa_object.specs.Machine.{Machine}
-use Rattle.pa_object.specs.Run.{Place, Watched, watched}
-use Rattle.pa_object.specs.Shape.{Shown, Enter, shape, all_known}
+use Rattle.pa_object.specs.Run.{Place, watched}
+use Rattle.pa_object.specs.Shape.{Enter, shape, all_known}
 use Rattle.pa_object.proofs.Placed.{Stands, HasCode, HasCode-append, HasCode-same}
-use Rattle.pa_object.proofs.Steps.{register-set, watching, here, reach, no_step, movz_step, movk_step, add_sp_step, sub_sp_step, stp_sp_step, ldp_sp_step, bl_step, pacibsp_step, retab_step, exit_step, add64_small, scaled64_small}
-use Rattle.pa_object.proofs.StepsRun.{watched-then, watched-ended, is_known-more, is_known-sign, AreBefore, AreBefore-more, shape-more, shape-entered, shape-return, all_known-enter, all_known-return}
+use Rattle.pa_object.proofs.Steps.{register-set, watching, reach, no_step, movz_step, movk_step, add_sp_step, sub_sp_step, stp_sp_step, ldp_sp_step, bl_step, pacibsp_step, retab_step, exit_step, add64_small, scaled64_small}
+use Rattle.pa_object.proofs.StepsRun.{watched-then, is_known-more, is_known-sign, AreBefore-more, shape-more, shape-entered, shape-return, all_known-enter, all_known-return}
 use Rattle.pa_straight.specs.Block.{start, prologue, epilogue, calls, putchar, instructions}
 use Rattle.pa_mem.proofs.Ranges.{allowed-store, load-store-allowed, fetch-store-other}
 use Rattle.pa_object.proofs.StepsLeads.{IsReady, Leads, leads-then}

@@ -1,5 +1,5 @@
 -- The words are the program's, and all else follows from that.
-use Rattle.std.proofs.Common.{◌≡◌, ◌∙◌, ap, subst, sym, length, arith, rules}
+use Rattle.std.proofs.Common.{◌∙◌, ap, subst, sym, length, arith}
 use Rattle.std.proofs.lemmas.Grind.{common_steps}
 use Rattle.pa_straight.specs.Shows.{Runs}
 use Rattle.pa_straight.proofs.Begun.{length-words_of, runs}
