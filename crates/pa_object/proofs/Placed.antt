@@ -37,11 +37,10 @@ Stands-same memory other at i e c = record { word = c.word; fetched = e ∙ c.fe
 
 pub HasCode-same : (memory other : List Region) (at : ℕ) (is : List Instr) → ((p : ℕ) → at ≤ p → p + 4 ≤ at + 4 * length is → fetch other p ≡ fetch memory p) → HasCode memory at is → HasCode other at is
 HasCode-same memory other at [] same h = tt
-HasCode-same memory other at (i ∷ is) same h =
-    (
-        Stands-same memory other at i (same at (omega arith) (omega arith)) h.0,
-        HasCode-same memory other (at + 4) is (λ p low high. same p (omega arith) (omega arith)) h.1
-    )
+HasCode-same memory other at (i ∷ is) same h = (
+  Stands-same memory other at i (same at (omega arith) (omega arith)) h.0,
+  HasCode-same memory other (at + 4) is (λ p low high. same p (omega arith) (omega arith)) h.1,
+)
 
 -- ---- from bytes
 
@@ -64,10 +63,10 @@ number_of-to_le_bytes w h = omega arith
 
 Stands-bytes : (memory : List Region) (at : ℕ) (i : Instr) → InRange i → at % 4 ≡ 0 → allowed Run memory at 4 ≡ true → bytes_at 4 memory at ≡ to_le_bytes w32 (encoded i) → Stands memory at i
 Stands-bytes memory at i fits aligned runs bytes = record {
-    word = encoded i;
-    fetched = fetch-word memory at _ (sym (allowed-run memory at 4) ∙ runs) aligned (sym bytes) ∙ ap Some (number_of-to_le_bytes (encoded i) (encoded-lt i fits));
-    decodes = decoded-encoded i fits;
-  }
+  word = encoded i;
+  fetched = fetch-word memory at _ (sym (allowed-run memory at 4) ∙ runs) aligned (sym bytes) ∙ ap Some (number_of-to_le_bytes (encoded i) (encoded-lt i fits));
+  decodes = decoded-encoded i fits;
+}
 
 -- where the bytes of their words stand, instructions stand
 pub HasCode-bytes : (memory : List Region) (at : ℕ) (is : List Instr) → AllByRecursion InRange is → at % 4 ≡ 0 → allowed Run memory at (4 * length is) ≡ true
@@ -76,10 +75,9 @@ HasCode-bytes memory at [] fits aligned runs bytes = tt
 HasCode-bytes memory at (i ∷ is) fits aligned runs bytes =
     let size : 4 * suc (length is) ≡ suc (suc (suc (suc (4 * length is)))) = omega arith in
     let words = subst (λ n. bytes_at n memory at ≡ to_le_bytes w32 (encoded i) ++ flat_map (to_le_bytes w32) (map encoded is)) size bytes in
-    let start : at + 0 ≡ at = omega arith in
-    (
-        Stands-bytes memory at i fits.0 aligned (subst (λ p. allowed Run memory p 4 ≡ true) start (allowed-part Run memory at (4 * suc (length is)) 0 4 runs (omega arith)))
-        (first_word memory at (4 * length is) (encoded i) _ words),
-        HasCode-bytes memory (at + 4) is fits.1 (omega arith) (allowed-part Run memory at (4 * suc (length is)) 4 (4 * length is) runs (omega arith))
-        (other_words memory at (4 * length is) (encoded i) _ words)
+    let start : at + 0 ≡ at = omega arith in (
+      Stands-bytes memory at i fits.0 aligned (subst (λ p. allowed Run memory p 4 ≡ true) start (allowed-part Run memory at (4 * suc (length is)) 0 4 runs (omega arith)))
+          (first_word memory at (4 * length is) (encoded i) _ words),
+      HasCode-bytes memory (at + 4) is fits.1 (omega arith) (allowed-part Run memory at (4 * suc (length is)) 4 (4 * length is) runs (omega arith))
+          (other_words memory at (4 * length is) (encoded i) _ words),
     )

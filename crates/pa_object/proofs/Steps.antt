@@ -128,10 +128,10 @@ module _ (code : Code) where
   module _ (m : Machine) where
     pub retab_step : (v raw : ℕ) → Stands m.memory m.pc (i.Stack Retab) → get_or m.registers 30 0 ≡ v → auth code IB m.sp v ≡ Some raw
         → step code m ≡ record m {
-            pc = raw;
-            count = suc m.count;
-            log = record { when = Step m.count; event = event.Land way.Return raw } ∷ record { when = Step m.count; event = event.Take IB m.sp raw (is_known m.log IB m.sp raw) } ∷ m.log;
-          }
+          pc = raw;
+          count = suc m.count;
+          log = record { when = Step m.count; event = event.Land way.Return raw } ∷ record { when = Step m.count; event = event.Take IB m.sp raw (is_known m.log IB m.sp raw) } ∷ m.log;
+        }
     unfolding trap_of effect
     retab_step v raw c e f = step_at m _ c (rw (e, f)) ∙ rw (e, f)
 

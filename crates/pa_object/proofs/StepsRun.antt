@@ -146,7 +146,7 @@ shape-entered got front entry middle trail number modifier raw signed log e h =
 pub shape-called : (got : List ℕ) (front : List Place) (entry : Place) (middle trail : List Place) (number modifier raw signed : ℕ) (first second : When) (target : ℕ) (known : Bool) (log : Log)
     → number ≡ length (middle ++ trail) → AreBefore (length trail) log
     → shape got (front ++ entry ∷ (middle ++ trail)) (record { when = first; event = event.Land way.Return target } ∷ record { when = second; event = event.Take IB modifier raw known } ∷ record { when = moment.Step number; event = event.Sign IB modifier raw signed } ∷ log)
-        ≡ Enter entry.at ∷ shape got trail log
+    ≡ Enter entry.at ∷ shape got trail log
 shape-called got front entry middle trail number modifier raw signed first second target known log e h =
     shape-return got (front ++ entry ∷ (middle ++ trail)) first second modifier raw target known _
     ∙ shape-entered got front entry middle trail number modifier raw signed log e h
