@@ -1,4 +1,5 @@
 pub mod Counts
-pub mod Failures
+mod Failures
 pub mod Growth
 mod Shifted
+pub mod Taken

@@ -7,10 +7,12 @@ mod files;
 mod memory;
 mod moves;
 mod outside;
+mod real;
 mod sure;
 
 pub use calls::Calls;
 pub use files::{MemFile, MemFiles};
 pub use memory::{MemShelf, MemSink, MemSource};
 pub use outside::{Failed, Shelf, ShelfFault, Sink, Source, write_all};
+pub use real::{DiskShelf, StdinSource, StdoutSink};
 pub use sure::{SureShelf, SureSink, SureSource};
