@@ -15,6 +15,14 @@ pub struct MemFile {
     pub bytes: Bytes,
 }
 
+impl MemFile {
+    pub fn new(name: Name, bytes: Bytes) -> MemFile
+        ensures { result ≡ record { name = name; bytes = bytes } }
+    {
+        MemFile { name, bytes }
+    }
+}
+
 /// Files in order. Of several files of one name the first counts.
 pub type MemFiles = Sequence<MemFile>;
 

@@ -9,6 +9,8 @@ mod moves;
 mod outside;
 mod real;
 mod sure;
+#[cfg(test)]
+mod tests;
 
 pub use calls::Calls;
 pub use files::{MemFile, MemFiles};

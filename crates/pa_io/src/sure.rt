@@ -1,4 +1,4 @@
-ghost use Rattle.std.specs.Prelude.{◌≡◌, ◌++◌, min, length, take, drop, Ok, IfOk};
+ghost use Rattle.std.specs.Prelude.{◌≡◌, ◌++◌, min, length, take, drop, if◌then◌else◌, Ok, IfOk, IsTrue};
 
 use crate::files::{MemFiles, copy_file, find_file};
 use crate::moves::move_bytes;
@@ -85,13 +85,17 @@ impl SureSink {
 }
 
 impl Sink for SureSink {
-    ghost use Rattle.std.specs.Prelude.{Some, None, if◌then◌else◌};
+    ghost use Rattle.std.specs.Prelude.{Some, None};
 
     ghost faults = { λ _. 0 };
 
     ghost written = { λ s. if s.lost then None else Some s.written };
 
-    fn write(&mut self, bytes: &[u8]) -> Result<usize, Failed> {
+    fn write(&mut self, bytes: &[u8]) -> Result<usize, Failed>
+        ensures all { result ≡ Ok (length bytes.now) }
+        ensures lost { IsTrue self.old.lost → IsTrue self.new.lost }
+        ensures written { self.new.written ≡ (if self.new.lost then self.old.written else self.old.written ++ bytes.now) }
+    {
         if !self.lost && self.written.extend_from_slice(bytes).is_err() {
             self.lost = true;
         }
