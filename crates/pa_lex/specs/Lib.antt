@@ -2,4 +2,6 @@ pub mod Bytes
 pub mod Forms
 pub mod Lexes
 pub mod Literals
+pub mod Reading
+pub mod Shapes
 pub mod Texts
