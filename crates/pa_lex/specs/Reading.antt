@@ -1,5 +1,5 @@
 -- Reading what stands at the front of a text: functions, for the contracts of the parts of `lex`.
-use Rattle.std.specs.Prelude.{◌≡◌, ℕ, suc, ◌+◌, ◌-◌, ◌≤◌, min, Bool, true, false, not, ◌&&◌, ◌||◌, ◌==◌, nat_lt, nat_le, if◌then◌else◌, List, [], ◌∷◌, ◌++◌, length, take, drop, Option, Some, None, codes, option_map, option_and_then}
+use Rattle.std.specs.Prelude.{◌≡◌, ℕ, suc, ◌+◌, ◌-◌, ◌≤◌, min, Bool, true, false, not, ◌&&◌, ◌||◌, ◌==◌, nat_lt, nat_le, ◌^◌, Result, Ok, Err, if◌then◌else◌, List, [], ◌∷◌, ◌++◌, length, take, drop, Option, Some, None, codes, option_map, option_and_then}
 use Rattle.std.specs.List.{prefix_len, find}
 use Rattle.std.specs.Char.{is_digit}
 use Rattle.std.specs.Str.{bytes_eq}
@@ -15,9 +15,14 @@ use Rattle.pa_lex.specs.declared.token.Include.{Include}
 use Rattle.pa_lex.specs.declared.token.Include.TheVariants.{Stdio, Stdint, Ptrauth}
 use Rattle.pa_lex.specs.Texts.{Text, keyword_text, punct_text, include_text, puncts_at, keywords_at}
 use Rattle.pa_lex.specs.Bytes.{is_letter, is_word, is_white, is_line_feed, is_blank_line, begins}
-use Rattle.pa_lex.specs.Literals.{prefix, radix, is_u, is_l, Piece, Plain, Simple, OctalEscape, HexadecimalEscape, piece_text, piece_value, simple_escape}
-use Rattle.pa_lex.specs.Forms.{Form, Word, Number, Quoted, Mark, Line, quote_byte}
-use Rattle.pa_lex.specs.Lexes.{Separator, White, BlockComment, LineComment}
+use Rattle.pa_lex.specs.Literals.{prefix, radix, is_u, is_l, Piece, Plain, Simple, OctalEscape, HexadecimalEscape, piece_text, piece_value, simple_escape, StandsFor}
+use Rattle.pa_num.specs.declared.fault.Fault.{Fault}
+use Rattle.pa_num.specs.declared.fault.Fault.TheVariants.{Refused, Memory}
+use Rattle.pa_lex.specs.declared.token.Kind.{Kind}
+use Rattle.pa_lex.specs.declared.token.Token.{Token}
+use Rattle.pa_lex.specs.declared.token.LexRule.{LexRule}
+use Rattle.pa_lex.specs.Forms.{Form, Word, Number, Quoted, Mark, Line, quote_byte, form_text, Means}
+use Rattle.pa_lex.specs.Lexes.{Separator, White, BlockComment, LineComment, separator_text, Cursor, moved, Gap, IsTokenAt, Breaks}
 
 -- what a byte can begin
 abbrev pub class_of : ℕ → Class
@@ -114,3 +119,92 @@ form_by Other first c t = marked (punct_at c (c ∷ t))
 abbrev pub form_at : Bool → Text → Option Form
 form_at first [] = None
 form_at first (c ∷ t) = form_by (class_of c) first c t
+
+-- the byte of a piece and how many bytes it has, where the byte is one
+abbrev pub fitted : Piece → Option (ℕ × ℕ)
+fitted piece = if nat_le (piece_value piece) 255 then Some (piece_value piece, length (piece_text piece)) else None
+
+abbrev pub simple_at : ℕ → Option ℕ → Option Piece
+simple_at letter None = None
+simple_at letter (Some byte) = Some (Simple letter byte)
+
+abbrev pub hexadecimal_escape : Text → Option Piece
+hexadecimal_escape [] = None
+hexadecimal_escape (d ∷ digits) = Some (HexadecimalEscape (d ∷ digits))
+
+-- the escape whose bytes behind the backslash stand at the front
+abbrev pub escape_at : Text → Option Piece
+escape_at [] = None
+escape_at (c ∷ t) =
+    if c == 120 then hexadecimal_escape (front (λ d. is_digit d 16) t) else
+    (if is_digit c 8 then Some (OctalEscape (take (min (prefix_len (λ d. is_digit d 8) (c ∷ t)) 3) (c ∷ t)))
+    else simple_at c (simple_escape c))
+
+-- the longest piece at the front
+abbrev pub piece_at : Text → Option Piece
+piece_at [] = None
+piece_at (c ∷ t) = if c == 92 then escape_at t else Some (Plain c)
+
+-- the byte of that piece, and how many bytes the piece has
+unfoldable pub character_at : Text → Option (ℕ × ℕ)
+character_at text = option_and_then fitted (piece_at text)
+
+-- a number, where it has 64 bits
+abbrev pub within_u64 : ℕ → Option ℕ
+within_u64 n = if nat_lt n (2 ^ 64) then Some n else None
+
+abbrev pub within_byte : ℕ → Option ℕ
+within_byte n = if nat_le n 255 then Some n else None
+
+-- whether a byte comes next
+abbrev pub next_is : ℕ → Text → Bool
+next_is byte [] = false
+next_is byte (c ∷ t) = c == byte
+
+-- where the first `*/` stands
+unfoldable pub close : Text → Option ℕ
+close [] = None
+close (c ∷ t) = if c == 42 && next_is 47 t then Some 0 else plus_one (close t)
+
+abbrev pub block : Text → Option ℕ → Option Separator
+block text None = None
+block text (Some n) = Some (BlockComment (take n text))
+
+-- the comment whose bytes behind the first slash stand at the front
+abbrev pub comment_at : Text → Option Separator
+comment_at [] = None
+comment_at (c ∷ t) = if c == 47 then Some (LineComment (front (λ d. not (is_line_feed d)) t)) else (if c == 42 then block t (close t) else None)
+
+-- the separator at the front
+unfoldable pub separator_at : Text → Option Separator
+separator_at [] = None
+separator_at (c ∷ t) = if is_white c then Some (White c) else (if c == 47 then comment_at t else None)
+
+abbrev pub len_of : Option Separator → Option ℕ
+len_of None = None
+len_of (Some separator) = Some (length (separator_text separator))
+
+-- the place behind the next n bytes
+abbrev pub passed : ℕ → Cursor → Cursor
+passed n cursor = moved (take n cursor.ahead) cursor (drop n cursor.ahead)
+
+-- what `skip` does: behind the separators no further one stands
+pub record Skips (old new : Cursor) : Type 0 where
+  pub gap : (gap : List Separator) × Gap gap old new
+  pub stops : separator_at new.ahead ≡ None
+
+-- what a form is, if it means something
+abbrev pub IsKind : Form → Option Kind → Type 0
+IsKind form None = (kind : Kind) → Means form kind → ⊥
+IsKind form (Some kind) = Means form kind
+
+-- what a literal's body stands for, if it stands for bytes
+abbrev pub IsStoodFor : Text → Option (List ℕ) → Type 0
+IsStoodFor body None = (bytes : List ℕ) → StandsFor body bytes → ⊥
+IsStoodFor body (Some bytes) = StandsFor body bytes
+
+-- what `token` answers, where a token or a broken rule is next
+abbrev pub TakesToken : Cursor → Result Token (Fault LexRule) → Cursor → Type 0
+TakesToken old (Ok token) new = (form : Form) × (rest : Text) × IsTokenAt token form old rest × (new ≡ moved (form_text form) old rest)
+TakesToken old (Err (Refused rule place)) new = Breaks rule old × (place ≡ old.at)
+TakesToken old (Err Memory) new = Unit {0}

@@ -3,6 +3,8 @@
 
 mod byte;
 mod form;
+mod literal;
+mod reader;
 mod table;
 mod token;
 
