@@ -39,7 +39,7 @@ plain_right c t ne = record {
 }
 
 -- an octal digit is no letter of a simple escape, and no x
-octal_simple : (c : ℕ) → is_digit c 8 ≡ true → simple_escape c ≡ None
+pub octal_simple : (c : ℕ) → is_digit c 8 ≡ true → simple_escape c ≡ None
 octal_simple c h = grind (arith, nat_tests)
 
 octal_x : (c : ℕ) → is_digit c 8 ≡ true → (c == 120) ≡ false
