@@ -1,12 +1,14 @@
 -- What a literal's body stands for.
-use Rattle.std.proofs.Common.{◌≡◌, ◌≢◌, ℕ, zero, suc, ◌+◌, ◌≤◌, ◌<◌, Bool, true, false, cond, List, [], ◌∷◌, ◌++◌, length, take, drop, refl, sym, ◌∙◌, ap, subst, arith, Option, Some, None, ◌⊎◌, inl, inr, nat_le, length-append, length-drop}
+use Rattle.std.proofs.Common.{◌≡◌, ◌≢◌, ℕ, zero, suc, ◌+◌, ◌≤◌, ◌<◌, Bool, true, false, cond, List, [], ◌∷◌, ◌++◌, length, take, drop, refl, sym, ◌∙◌, ap, subst, arith, ◌==◌, Option, Some, None, ◌⊎◌, inl, inr, nat_le, length-append, length-drop, append_assoc}
 use Rattle.std.specs.List.{list_all}
 use Rattle.std.specs.Char.{is_digit}
 use Rattle.std.proofs.lemmas.Bool.Decides.{nat_tests}
-use Rattle.std.proofs.Math.Seq.{drop-append_seam}
+use Rattle.std.proofs.lemmas.List.{append-nil}
+use Rattle.std.proofs.Math.Seq.{drop-length}
 use Rattle.pa_lex.specs.Texts.{Text}
 use Rattle.pa_lex.specs.Literals.{Piece, Plain, Simple, OctalEscape, HexadecimalEscape, piece_text, piece_value, simple_escape, IsPiece, IsPieceAt, IsLongestPiece, StandsFor}
-use Rattle.pa_lex.specs.Reading.{fitted, piece_at, character_at}
+use Rattle.std.specs.Bool.{then_some}
+use Rattle.pa_lex.specs.Reading.{fitted, piece_at, character_at, IsCharacterOf}
 use Rattle.pa_lex.proofs.Runs.{if_true, if_false, both_true, same_front, heads, tails}
 use Rattle.pa_lex.proofs.Pieces.{octal, hexadecimal, PieceIsRight, IsReadPiece, piece_right, octal_simple}
 
@@ -161,3 +163,54 @@ pub stands_decided : (fuel : ℕ) (t : Text) → length t ≤ fuel → ((bytes :
 stands_decided fuel [] h = inl ([], refl)
 stands_decided zero (c ∷ t) h = absurd (omega arith)
 stands_decided (suc fuel) (c ∷ t) h = stands_by c t (character_at (c ∷ t)) refl (λ n l. stands_decided fuel (drop n (c ∷ t)) (omega (arith, length-drop n (c ∷ t))))
+
+-- the bytes so far and what the rest stands for are what the body stands for
+pub record IsReadTo (body : Text) (bytes : List ℕ) (rest : Text) : Type 0 where
+  pub builds : (more : List ℕ) → StandsFor rest more → StandsFor body (bytes ++ more)
+  pub only : (all : List ℕ) → StandsFor body all → (more : List ℕ) × StandsFor rest more × (all ≡ bytes ++ more)
+
+pub read_none : (body : Text) → IsReadTo body [] body
+read_none body = record { builds = λ more s. s; only = λ all s. (all, s, refl) }
+
+pub read_more : (body : Text) (bytes : List ℕ) (rest : Text) (byte n : ℕ) → IsReadTo body bytes rest → character_at rest ≡ Some (byte, n) → IsReadTo body (bytes ++ byte ∷ []) (drop n rest)
+read_more body bytes rest byte n h e = record {
+  builds = λ more s. rw append_assoc (h.builds (byte ∷ more) (stands_more rest byte n more e s));
+  only = only_more;
+}
+  where
+    only_more : (all : List ℕ) → StandsFor body all → (more : List ℕ) × StandsFor (drop n rest) more × (all ≡ (bytes ++ byte ∷ []) ++ more)
+    only_more all s =
+        let (more, r, a) = h.only all s in
+        let k = stands_front rest byte n more e r in
+        (k.more, k.stands, a ∙ ap (λ x. bytes ++ x) k.bytes_are ∙ sym (append_assoc bytes (byte ∷ []) k.more))
+
+pub read_fails : (body : Text) (bytes : List ℕ) (rest : Text) (all : List ℕ) → IsReadTo body bytes rest → rest ≢ [] → character_at rest ≡ None → StandsFor body all → ⊥
+read_fails body bytes rest all h ne e s = let (more, r, a) = h.only all s in stands_none rest more ne e r
+
+pub read_all : (body : Text) (bytes : List ℕ) (rest : Text) → IsReadTo body bytes rest → rest ≡ [] → StandsFor body bytes
+read_all body bytes rest h e = subst (StandsFor body) (append-nil bytes) (h.builds [] e)
+
+pub stands_nonempty : (t : Text) (byte : ℕ) (bytes : List ℕ) → StandsFor t (byte ∷ bytes) → t ≢ []
+stands_nonempty t byte bytes (p, r, here, longest, value, small, rest) e = let z = ap length here.text_is in absurd (omega (arith, piece_long p, length-append (piece_text p) r, ap length e))
+
+-- a body of one piece stands for one byte, and no other body does
+pub one_byte : (body : Text) (byte n : ℕ) → character_at body ≡ Some (byte, n) → n ≡ length body → StandsFor body (byte ∷ [])
+one_byte body byte n e l = stands_more body byte n [] e (rw l (drop-length body))
+
+pub not_one_byte : (body : Text) (byte n other : ℕ) → character_at body ≡ Some (byte, n) → n ≢ length body → StandsFor body (other ∷ []) → ⊥
+not_one_byte body byte n other e l s =
+    let k = stands_front body byte n (other ∷ []) e s in
+    let z : [] ≡ k.more = tails k.bytes_are in
+    let d : drop n body ≡ [] = subst (StandsFor (drop n body)) (sym z) k.stands in
+    let w = character_within body byte n e in
+    l (omega (arith, length-drop n body, ap length d, w.within))
+
+pub no_byte : (body : Text) (other : ℕ) → character_at body ≡ None → StandsFor body (other ∷ []) → ⊥
+no_byte body other e s = stands_none body (other ∷ []) (stands_nonempty body other [] s) e s
+
+pub character_answer : (body : Text) (byte n : ℕ) (b : Bool) (r : Option ℕ) → character_at body ≡ Some (byte, n) → (n == length body) ≡ b → r ≡ then_some b byte → IsCharacterOf body r
+character_answer body byte n true r e l a = rw a (one_byte body byte n e (grind (arith, nat_tests)))
+character_answer body byte n false r e l a = rw a (λ other. not_one_byte body byte n other e (λ z. grind (arith, nat_tests)))
+
+pub character_missing : (body : Text) (r : Option ℕ) → character_at body ≡ None → r ≡ None → IsCharacterOf body r
+character_missing body r e a = rw a (λ other. no_byte body other e)

@@ -1,6 +1,8 @@
 -- Runs of bytes that pass a test, and texts that begin another.
-use Rattle.std.proofs.Common.{◌≡◌, ℕ, zero, suc, ◌+◌, ◌-◌, ◌≤◌, ◌<◌, Bool, true, false, cond, ◌&&◌, List, [], ◌∷◌, ◌++◌, length, take, drop, refl, sym, ◌∙◌, ap, arith, one-add, add-one, subst}
+use Rattle.std.proofs.Common.{◌≡◌, ℕ, zero, suc, ◌+◌, ◌-◌, ◌≤◌, ◌<◌, Bool, true, false, cond, ◌&&◌, List, [], ◌∷◌, ◌++◌, length, take, drop, refl, sym, ◌∙◌, ap, arith, one-add, add-one, subst, ◌==◌, ◌≢◌}
 use Rattle.std.specs.List.{prefix_len, list_all}
+use Rattle.std.proofs.lemmas.List.{nil_from_length}
+use Rattle.std.proofs.lemmas.Bool.Decides.{nat_tests}
 use Rattle.std.proofs.Math.Seq.{take-append_seam, drop-append_seam}
 
 pub if_true : {A : Type 0} (P : A → Type 0) (b : Bool) (x y : A) → b ≡ true → P x → P (cond b x y)
@@ -46,3 +48,13 @@ tails e = cc
 
 pub heads : {c d : ℕ} {t u : List ℕ} → c ∷ t ≡ d ∷ u → c ≡ d
 heads e = cc
+
+-- what `is_empty` answers
+pub is_nil : (xs : List ℕ) (b : Bool) → b ≡ (length xs == 0) → b ≡ true → xs ≡ []
+is_nil xs b e h = nil_from_length xs (grind (arith, nat_tests))
+
+no_nil : (xs : List ℕ) (b : Bool) → b ≡ (length xs == 0) → b ≡ false → length xs ≡ 0 → ⊥
+no_nil xs b e h z = grind (arith, nat_tests)
+
+pub is_no_nil : (xs : List ℕ) (b : Bool) → b ≡ (length xs == 0) → b ≡ false → xs ≢ []
+is_no_nil xs b e h z = no_nil xs b e h (ap length z)

@@ -203,6 +203,15 @@ abbrev pub IsStoodFor : Text → Option (List ℕ) → Type 0
 IsStoodFor body None = (bytes : List ℕ) → StandsFor body bytes → ⊥
 IsStoodFor body (Some bytes) = StandsFor body bytes
 
+abbrev pub IsCharacterOf : Text → Option ℕ → Type 0
+IsCharacterOf body None = (byte : ℕ) → StandsFor body (byte ∷ []) → ⊥
+IsCharacterOf body (Some byte) = StandsFor body (byte ∷ [])
+
+-- the keyword that a word is
+abbrev pub keyword_of : Text → Option Keyword
+keyword_of [] = None
+keyword_of (c ∷ t) = find (λ keyword. bytes_eq (keyword_text keyword) (c ∷ t)) (keywords_at c)
+
 -- what `token` answers, where a token or a broken rule is next
 abbrev pub TakesToken : Cursor → Result Token (Fault LexRule) → Cursor → Type 0
 TakesToken old (Ok token) new = (form : Form) × (rest : Text) × IsTokenAt token form old rest × (new ≡ moved (form_text form) old rest)

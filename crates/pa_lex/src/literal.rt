@@ -81,7 +81,7 @@ fn escape(text: &[u8]) -> Option<(u8, usize)>
 
 /// The byte that stands at the front of a literal's body, and how many bytes stand for it.
 #[tactic(auto, unfolding(crate::specs::Reading::character_at))]
-pub fn character(text: &[u8]) -> Option<(u8, usize)>
+fn character(text: &[u8]) -> Option<(u8, usize)>
     ensures { result ≡ reading.character_at text.now }
 {
     match text {
@@ -89,4 +89,29 @@ pub fn character(text: &[u8]) -> Option<(u8, usize)>
         [c, ..] => Some((*c, 1)),
         [] => None,
     }
+}
+
+/// The bytes that a literal's body stands for. None: it has an escape of no form or above 255.
+pub fn bytes_of(alloc: Global, body: &[u8]) -> Result<Option<Bytes>, AllocError>
+    ensures { IfOk result (reading.IsStoodFor body.now) }
+{
+    let mut bytes = Bytes::new(alloc);
+    let mut rest = body;
+    'pieces: while !rest.is_empty() {
+        let Some((byte, count)) = character(rest) else {
+            return Ok(None);
+        };
+        bytes.push(byte)?;
+        let (_, tail) = rest.split_at(count);
+        rest = tail;
+    }
+    Ok(Some(bytes))
+}
+
+/// The byte of a character constant. None: its body stands for another count of bytes than one.
+pub fn character_of(body: &[u8]) -> Option<u8>
+    ensures { reading.IsCharacterOf body.now result }
+{
+    let (byte, count) = character(body)?;
+    (count == body.len()).then_some(byte)
 }
