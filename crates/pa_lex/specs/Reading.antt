@@ -208,9 +208,12 @@ IsCharacterOf body None = (byte : ℕ) → StandsFor body (byte ∷ []) → ⊥
 IsCharacterOf body (Some byte) = StandsFor body (byte ∷ [])
 
 -- the keyword that a word is
-abbrev pub keyword_of : Text → Option Keyword
+abbrev pub find_keyword : ℕ → Text → Option Keyword
+find_keyword c text = find (λ keyword. bytes_eq (keyword_text keyword) text) (keywords_at c)
+
+unfoldable pub keyword_of : Text → Option Keyword
 keyword_of [] = None
-keyword_of (c ∷ t) = find (λ keyword. bytes_eq (keyword_text keyword) (c ∷ t)) (keywords_at c)
+keyword_of (c ∷ t) = find_keyword c (c ∷ t)
 
 -- what `token` answers, where a token or a broken rule is next
 abbrev pub TakesToken : Cursor → Result Token (Fault LexRule) → Cursor → Type 0

@@ -56,6 +56,12 @@ impl Base {
         }
     }
 
+    pub fn is_decimal(self) -> bool
+        ensures { result ≡ literals.is_decimal self }
+    {
+        matches!(self, Base::Decimal)
+    }
+
     pub fn prefix_len(self) -> usize
         ensures { result ≡ length (literals.prefix self) }
     {

@@ -3,6 +3,7 @@
 
 mod byte;
 mod form;
+mod kind;
 mod literal;
 mod reader;
 mod table;
