@@ -1,0 +1,6 @@
+//! All passes together, and the text that a run prints.
+#![tactic(auto)]
+
+mod page;
+mod report;
+mod text;
