@@ -4,3 +4,5 @@
 mod page;
 mod report;
 mod text;
+
+pub use page::Page;

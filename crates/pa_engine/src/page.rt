@@ -1,9 +1,11 @@
-ghost use Rattle.std.specs.Prelude.{◌≡◌, ℕ, [], ◌∷◌, ◌++◌, ◌+◌, ◌≤◌, ◌↔◌, length, IsTrue, decimal};
+ghost use Rattle.std.specs.Prelude.{◌≡◌, ℕ, [], ◌∷◌, ◌++◌, ◌+◌, ◌≤◌, ◌↔◌, length, IsTrue, decimal, OnOk, OnErr};
 ghost use Rattle.std.specs.Fmt.{signed_decimal};
+ghost use Rattle.pa_io.specs.Outside.{Rose, Grew, GrewByPrefix};
 ghost use Rattle.pa_engine.specs.Report.{address_text};
 
 use hex::encode_to_slice;
 use itoa::Buffer;
+use pa_io::{Failed, Sink, write_all};
 use std::marker::Model;
 
 /// How many bytes a page holds.
@@ -95,5 +97,18 @@ impl Page {
         let mut text = [b' '; 17];
         let _ = encode_to_slice(address.to_be_bytes(), &mut text[1..]);
         self.push(&text);
+    }
+
+    /// Writes the text, and is empty then.
+    pub fn flush<K: Sink>(&mut self, out: &mut K) -> Result<(), Failed>
+        ensures all { OnOk result (Grew (K.written out.old) (K.written out.new) self.old) }
+        ensures empty { OnOk result (self.new ≡ []) }
+        ensures prefix { OnErr result (GrewByPrefix (K.written out.old) (K.written out.new) self.old) }
+        ensures fault { OnErr result (Rose (K.faults out.old) (K.faults out.new)) }
+        ensures kept { K.faults out.old ≤ K.faults out.new }
+    {
+        write_all(out, self.as_slice())?;
+        self.clear();
+        Ok(())
     }
 }

@@ -88,19 +88,6 @@ impl Page {
     }
 }
 
-/// Writes the text of a page, which is empty then.
-fn flush<K: Sink>(page: &mut Page, out: &mut K) -> Result<(), Failed>
-    ensures all { OnOk result (Grew (K.written out.old) (K.written out.new) page.old) }
-    ensures empty { OnOk result (page.new ≡ []) }
-    ensures prefix { OnErr result (GrewByPrefix (K.written out.old) (K.written out.new) page.old) }
-    ensures fault { OnErr result (Rose (K.faults out.old) (K.faults out.new)) }
-    ensures kept { K.faults out.old ≤ K.faults out.new }
-{
-    write_all(out, page.as_slice())?;
-    page.clear();
-    Ok(())
-}
-
 /// Adds the line of an entry where the report shows it, and writes the page before where the line may not fit.
 fn put_entry<K: Sink>(page: &mut Page, entry: &Entry, short: bool, out: &mut K) -> Result<(), Failed>
     ensures all { OnOk result (Passed (K.written out.old) (K.written out.new) page.old page.new (shown_text short entry.now)) }
@@ -112,7 +99,7 @@ fn put_entry<K: Sink>(page: &mut Page, entry: &Entry, short: bool, out: &mut K) 
         return Ok(());
     }
     if !page.has_room(LINE) {
-        flush(page, out)?;
+        page.flush(out)?;
     }
     page.push_line(entry);
     Ok(())
@@ -128,7 +115,7 @@ fn write_lines<K: Sink>(page: &mut Page, entries: &[Entry], short: bool, out: &m
     for entry in entries {
         put_entry(page, entry, short, out)?;
     }
-    flush(page, out)
+    page.flush(out)
 }
 
 /// Writes the report of a run from its parts, of the log the oldest entry first.
@@ -140,7 +127,7 @@ fn write_report<K: Sink>(output: &[u8], end: End, entries: &[Entry], short: bool
 {
     let mut page = Page::new();
     page.push_output_line(output);
-    flush(&mut page, out)?;
+    page.flush(out)?;
     write_all(out, output)?;
     page.push(b"\n");
     page.push_end_line(end);

@@ -60,7 +60,7 @@ pub fn tells_unsigned(entry: &Entry) -> bool
 }
 
 impl Page {
-    pub fn push_end(&mut self, end: End)
+    pub(crate) fn push_end(&mut self, end: End)
         requires { length self.old + 20 ≤ 8192 }
         ensures text { self.new ≡ self.old ++ end_text end }
         ensures short { length self.new ≤ length self.old + 20 }
@@ -129,7 +129,7 @@ impl Page {
     }
 
     /// Adds the line of an entry of the log.
-    pub fn push_line(&mut self, entry: &Entry)
+    pub(crate) fn push_line(&mut self, entry: &Entry)
         requires { length self.old + 96 ≤ 8192 }
         ensures { self.new ≡ self.old ++ line_text entry.now }
     {
