@@ -1,13 +1,14 @@
 -- Laws of signing and authenticating, over any function for the code.
-use Rattle.std.proofs.Common.{◌≡◌, ℕ, true, false, List, [], ◌∷◌, length, ◌+◌, ◌*◌, ◌%◌, ◌^◌, ◌<◌, refl, sym, ap, ◌∙◌, arith, Some, None, cond, bit_and, bit_xor}
+use Rattle.std.proofs.Common.{inl, inr, eqb, ◌≡◌, ℕ, true, false, List, [], ◌∷◌, length, ◌+◌, ◌*◌, ◌%◌, ◌^◌, ◌<◌, refl, sym, ap, ◌∙◌, arith, Some, None, cond, bit_and, bit_xor}
 use Rattle.std.specs.Int.Bits.{xor_mod, and_mod, xor_assoc, xor_self, xor_zero_r, and_zero_r, xor_lt, and_le_r}
 use Rattle.std.specs.Int.{bit_at}
 use Rattle.std.proofs.lemmas.Nat.Bits.{bit_at_xor, bit_at_and, bit_at-lt}
-use Rattle.std.proofs.lemmas.Bool.{eq-eqb, cond-true, cond-false}
+use Rattle.std.proofs.lemmas.Bool.{cases_eq, ne_eqb, eq-eqb, cond-true, cond-false}
 use Rattle.pa_pac.specs.declared.key.Key.{Key}
+use Rattle.pa_pac.specs.declared.key.Key.TheVariants.{GA}
 use Rattle.pa_pac.specs.declared.pac.PacRow.{PacRow}
 use Rattle.pa_pac.specs.Functions.{table_value, is_for}
-use Rattle.pa_pac.specs.Signing.{Code, mask, canonical, covered, sign, auth, accepted}
+use Rattle.pa_pac.specs.Signing.{generic_code, Code, mask, canonical, covered, sign, auth, accepted}
 
 -- ---- canonical addresses
 
@@ -70,8 +71,33 @@ pub auth-sign : (code : Code) (key : Key) (modifier raw : ℕ) → canonical raw
 auth-sign code key modifier raw h =
     ap accepted (covered-covered code key modifier raw) ∙ ap (λ b. cond b (Some raw) None) (eq-eqb raw (canonical raw) (sym h))
 
+accepted-some : (under raw : ℕ) → accepted under ≡ Some raw → (canonical raw ≡ raw) × (under ≡ raw)
+accepted-some under raw e =
+    elim (cases_eq under (canonical under)) [
+      | inl same ↦
+          let there : under ≡ raw = let t : eqb under (canonical under) ≡ true = eq-eqb _ _ same in cc (sym (cond-true (eqb under (canonical under)) (Some under) None t)) in
+          (ap canonical (sym there) ∙ sym same ∙ there, there)
+      | inr other ↦
+          let t : eqb under (canonical under) ≡ false = ne_eqb _ _ other in
+          absurd (cc (cond-false (eqb under (canonical under)) (Some under) None t))
+    ]
+
 pub sign-lt : (code : Code) (key : Key) (modifier raw : ℕ) → raw < 2 ^ 64 → sign code key modifier raw < 2 ^ 64
 sign-lt code key modifier raw h = covered-lt code key modifier raw h
+
+-- what is accepted is canonical, and the value is its signature
+pub auth-some : (code : Code) (key : Key) (modifier value raw : ℕ) → auth code key modifier value ≡ Some raw
+    → (canonical raw ≡ raw) × (sign code key modifier raw ≡ value)
+auth-some code key modifier value raw e =
+    let under = covered code key modifier value in
+    let parts = accepted-some under raw e in
+    (parts.0, ap (covered code key modifier) (sym parts.1) ∙ covered-covered code key modifier value)
+
+pub auth-lt : (code : Code) (key : Key) (modifier value raw : ℕ) → auth code key modifier value ≡ Some raw → raw < 2 ^ 64
+auth-lt code key modifier value raw e = omega (arith, canonical-lt raw, (auth-some code key modifier value raw e).0)
+
+pub generic_code-lt : (code : Code) (pointer modifier : ℕ) → code GA pointer modifier < 2 ^ 64 → generic_code code pointer modifier < 2 ^ 64
+generic_code-lt code pointer modifier h = omega arith
 
 -- ---- the value of a table
 

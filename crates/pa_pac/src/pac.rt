@@ -107,3 +107,32 @@ fn table_code(rows: &[PacRow], key: Key, pointer: u64, modifier: u64) -> u64
     }
     0
 }
+
+#[cfg(test)]
+mod tests {
+    use super::{Pac, PacRow, TablePac, ZeroPac};
+    use crate::key::Key;
+    use pa_num::Sequence;
+    use std::test::Fail;
+
+    #[test]
+    fn takes_the_first_row(rt: HostRuntime) -> Result<(), Fail> {
+        let row = PacRow {
+            key: Key::IB,
+            pointer: 0x1000,
+            modifier: 8,
+            value: 0x1111 << 48,
+        };
+        let other = PacRow {
+            value: 0x2222 << 48,
+            ..row
+        };
+        let rows = Sequence::from_slice(rt.alloc(), &[row, other])?;
+        let table = TablePac { rows };
+        assert_eq!(rt; table.pac(Key::IB, 0x1000, 8), 0x1111 << 48);
+        assert_eq!(rt; table.pac(Key::IA, 0x1000, 8), 0);
+        assert_eq!(rt; table.pac(Key::IB, 0x1000, 9), 0);
+        assert_eq!(rt; ZeroPac.pac(Key::IB, 0x1000, 8), 0);
+        Ok(())
+    }
+}
