@@ -6,8 +6,8 @@ ghost use Rattle.pa_a64.specs.declared.instr.Instr.TheVariants as instr;
 ghost use Rattle.pa_object.specs.declared.end.Trap.TheVariants.{AuthFail};
 ghost use Rattle.pa_object.specs.Machine as spec;
 ghost use Rattle.pa_object.specs.Traps.{Asked, key_of_branch, key_of_authenticate, answer, fail_unless};
-ghost use Rattle.pa_object.specs.Effects.{key_of_sign, signed_in, accepted_in, generic_code, effect};
-ghost use Rattle.pa_machine.specs.Processor.{Carried, DoesOrTraps};
+ghost use Rattle.pa_object.specs.Effects.{key_of_sign, signed_in, accepted_in, generic_code};
+ghost use Rattle.pa_machine.specs.Processor.{Carried, Does, DoesOrTraps};
 
 use crate::processor::Processor;
 use pa_a64::{AuthenticateOp, BranchAuthenticatedOp, PlainOp, SignOp, StackOp};
@@ -145,11 +145,11 @@ impl Processor {
         }
     }
 
-    #[tactic(auto, unfolding(pa_object::specs::Effects::effect))]
+    #[tactic(auto, unfolding(pa_object::specs::Effects::effect, pa_object::specs::Traps::trap_of))]
     pub fn sign<P: Pac>(&mut self, p: &P, op: SignOp, rd: u8, rn: u8)
         requires count { self.old.machine.count + 1 < 2 ^ 32 }
         requires log { length self.old.machine.log < self.old.log_limit }
-        ensures { self.new ≡ record self.old { machine = effect (P.code p.now) (instr.Sign op rd rn) self.old.machine } }
+        ensures { Does (P.code p.now) (instr.Sign op rd rn) self.old self.new }
     {
         self.signs_in(p, key_of_sign(op), self.register_or_sp(rn), rd);
     }
@@ -182,11 +182,11 @@ impl Processor {
         }
     }
 
-    #[tactic(auto, unfolding(pa_object::specs::Effects::effect))]
+    #[tactic(auto, unfolding(pa_object::specs::Effects::effect, pa_object::specs::Traps::trap_of))]
     pub fn pacga<P: Pac>(&mut self, p: &P, rd: u8, rn: u8, rm: u8)
         requires count { self.old.machine.count + 1 < 2 ^ 32 }
         requires log { length self.old.machine.log < self.old.log_limit }
-        ensures { self.new ≡ record self.old { machine = effect (P.code p.now) (instr.Pacga rd rn rm) self.old.machine } }
+        ensures { Does (P.code p.now) (instr.Pacga rd rn rm) self.old self.new }
     {
         let value = self.register(rn);
         let modifier = self.register_or_sp(rm);

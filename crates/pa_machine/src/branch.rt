@@ -34,10 +34,10 @@ impl Processor {
         self.pc().wrapping_add(scaled(4, words))
     }
 
-    #[tactic(auto, unfolding(pa_object::specs::Effects::effect))]
+    #[tactic(auto, unfolding(pa_object::specs::Traps::trap_of, pa_object::specs::Effects::effect))]
     pub fn branch(&mut self, op: BranchOp, words: i32)
         requires { self.old.machine.count + 1 < 2 ^ 32 }
-        ensures { Does (instr.Branch op words) self.old self.new }
+        ensures { (code : Code) → Does code (instr.Branch op words) self.old self.new }
     {
         let target = self.way_to(words);
         match op {
@@ -47,10 +47,10 @@ impl Processor {
         self.goes_to(target);
     }
 
-    #[tactic(auto, unfolding(pa_object::specs::Effects::effect))]
+    #[tactic(auto, unfolding(pa_object::specs::Traps::trap_of, pa_object::specs::Effects::effect))]
     pub fn branch_conditional(&mut self, condition: u8, words: i32)
         requires { self.old.machine.count + 1 < 2 ^ 32 }
-        ensures { Does (instr.BranchConditional condition words) self.old self.new }
+        ensures { (code : Code) → Does code (instr.BranchConditional condition words) self.old self.new }
     {
         if meets(self.flags(), condition) {
             self.goes_to(self.way_to(words));
@@ -59,10 +59,10 @@ impl Processor {
         }
     }
 
-    #[tactic(auto, unfolding(pa_object::specs::Effects::effect))]
+    #[tactic(auto, unfolding(pa_object::specs::Traps::trap_of, pa_object::specs::Effects::effect))]
     pub fn compare_branch(&mut self, op: CompareBranchOp, rt: u8, words: i32)
         requires { self.old.machine.count + 1 < 2 ^ 32 }
-        ensures { Does (instr.CompareBranch op rt words) self.old self.new }
+        ensures { (code : Code) → Does code (instr.CompareBranch op rt words) self.old self.new }
     {
         if is_taken(op, self.register(rt)) {
             self.goes_to(self.way_to(words));
@@ -71,11 +71,11 @@ impl Processor {
         }
     }
 
-    #[tactic(auto, unfolding(pa_object::specs::Effects::effect))]
+    #[tactic(auto, unfolding(pa_object::specs::Traps::trap_of, pa_object::specs::Effects::effect))]
     pub fn branch_register(&mut self, op: BranchRegisterOp, rn: u8)
         requires count { self.old.machine.count + 1 < 2 ^ 32 }
         requires log { length self.old.machine.log < self.old.log_limit }
-        ensures { Does (instr.BranchRegister op rn) self.old self.new }
+        ensures { (code : Code) → Does code (instr.BranchRegister op rn) self.old self.new }
     {
         let target = self.register(rn);
         match op {
@@ -88,7 +88,7 @@ impl Processor {
         }
     }
 
-    #[tactic(auto, unfolding(pa_object::specs::Effects::effect, pa_object::specs::Traps::trap_of))]
+    #[tactic(auto, unfolding(pa_object::specs::Traps::trap_of, pa_object::specs::Effects::effect))]
     pub fn exception(&mut self, op: ExceptionOp, imm: u16) -> Result<(), Trap>
         requires count { self.old.machine.count + 1 < 2 ^ 32 }
         requires output { length self.old.machine.output < self.old.output_limit }
@@ -100,7 +100,7 @@ impl Processor {
         }
     }
 
-    #[tactic(auto, unfolding(pa_object::specs::Effects::effect, pa_object::specs::Traps::trap_of))]
+    #[tactic(auto, unfolding(pa_object::specs::Traps::trap_of, pa_object::specs::Effects::effect))]
     fn system_call(&mut self, number: u16) -> Result<(), Trap>
         requires count { self.old.machine.count + 1 < 2 ^ 32 }
         requires output { length self.old.machine.output < self.old.output_limit }

@@ -5,6 +5,7 @@ mod arithmetic;
 mod authentication;
 mod branch;
 mod compute;
+mod execute;
 mod flags;
 mod input;
 mod memory_access;
