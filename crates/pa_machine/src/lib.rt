@@ -8,5 +8,6 @@ mod compute;
 mod execute;
 mod flags;
 mod input;
+mod machine;
 mod memory_access;
 mod processor;
