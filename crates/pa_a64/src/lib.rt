@@ -2,6 +2,7 @@
 #![tactic(auto)]
 
 mod instr;
+mod signed;
 
 pub use instr::{
     AuthenticateOp, BitfieldOp, BranchAuthenticatedOp, BranchOp, BranchRegisterOp, CompareBranchOp,

@@ -1,0 +1,5 @@
+pub mod Counts
+mod Failures
+pub mod Growth
+mod Shifted
+pub mod Taken

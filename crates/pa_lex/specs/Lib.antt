@@ -1,0 +1,7 @@
+pub mod Bytes
+pub mod Forms
+pub mod Lexes
+pub mod Literals
+pub mod Reading
+pub mod Shapes
+pub mod Texts

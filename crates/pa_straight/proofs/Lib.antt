@@ -1,0 +1,4 @@
+mod MemoryStandIn
+pub mod Calls
+pub mod Whole
+mod SourceLaws
