@@ -9,13 +9,7 @@ use Rattle.pa_pac.specs.declared.event.When.TheVariants.{Step}
 use Rattle.pa_pac.specs.Log.{Log, is_known}
 use Rattle.pa_mem.specs.Memory.{Region}
 use Rattle.pa_object.specs.declared.end.End.{End}
-
--- negative, zero, carry and overflow of the last `subs`
-pub record Flags : Type 0 where
-  pub negative : Bool
-  pub zero : Bool
-  pub carry : Bool
-  pub overflow : Bool
+use Rattle.pa_object.specs.declared.flags.Flags.{Flags}
 
 -- registers x0 to x30, the stack pointer, the flags, memory, the place of the next instruction, the count of those that
 -- ran, what is left of the input, the output, the log with its newest entry first, and the end if it has come
