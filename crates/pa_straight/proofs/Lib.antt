@@ -1,0 +1,3 @@
+mod MemoryStandIn
+pub mod Calls
+mod SourceLaws
