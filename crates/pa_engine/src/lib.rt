@@ -2,7 +2,8 @@
 #![tactic(auto)]
 
 mod page;
-mod report;
+mod reports;
 mod text;
 
 pub use page::Page;
+pub use reports::{Ran, report};

@@ -3,6 +3,8 @@
 
 mod exit;
 mod lines;
+mod top;
 mod words;
 
 pub use exit::{Exit, Refusal, Rule, UseFault};
+pub use top::{MOST_BYTES, paclab};

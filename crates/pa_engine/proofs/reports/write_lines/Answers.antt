@@ -2,7 +2,7 @@ use Rattle.std.proofs.Common.{rules, ◌++◌, [], flat_map, drop, length, arith
 use Rattle.std.proofs.lemmas.List.{append-nil}
 use Rattle.std.proofs.lemmas.Result.{on_err_weaker}
 use Rattle.pa_engine.proofs.PieceLemmas.{Written-item, Written-cut, Written-all}
-use Rattle.pa_engine.proofs.report.write_lines.Goals as goal
+use Rattle.pa_engine.proofs.reports.write_lines.Goals as goal
 
 pub returns-in_err-put_entry-clause-prefix : goal.returns-in_err-put_entry-clause-prefix
 returns-in_err-put_entry-clause-prefix g c =

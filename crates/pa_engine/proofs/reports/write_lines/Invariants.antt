@@ -1,7 +1,7 @@
 use Rattle.std.proofs.Common.{◌≤◌, ◌++◌, drop, flat_map}
 use Rattle.pa_io.proofs.Growth.{Written}
 use Rattle.pa_engine.specs.Report.{shown_text}
-use Rattle.pa_engine.proofs.report.write_lines.Given as goal
+use Rattle.pa_engine.proofs.reports.write_lines.Given as goal
 
 -- of the page at first and the lines, this page and the lines of the entries to come are left
 abbrev pub invariant-loop-entry : goal.invariant-loop-entry

@@ -2,7 +2,7 @@ use Rattle.std.proofs.Common.{rules, refl}
 use Rattle.std.proofs.lemmas.Result.{on_err_weaker, on_ok_weaker}
 use Rattle.pa_engine.proofs.PieceLemmas.{cut_in_first, cut_in_second, both_written}
 use Rattle.pa_engine.proofs.ReportLemmas.{report_text-pages, report_text-head}
-use Rattle.pa_engine.proofs.report.write_report.Goals as goal
+use Rattle.pa_engine.proofs.reports.write_report.Goals as goal
 
 pub returns-in_err-flush-clause-prefix : goal.returns-in_err-flush-clause-prefix
 returns-in_err-flush-clause-prefix g c =

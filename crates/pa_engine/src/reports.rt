@@ -6,8 +6,29 @@ ghost use Rattle.pa_engine.specs.Report.{count_of, is_sign, is_take, is_land, is
 use crate::page::Page;
 use crate::text::{LINE, tells_unsigned};
 use pa_io::{Failed, Sink, write_all};
+use pa_log::Log;
+use pa_num::Bytes;
 use pa_object::End;
 use pa_pac::{Entry, Event};
+
+/// What a run left: its output, how it ended, and its log.
+#[derive(Debug, Drop)]
+pub struct Ran {
+    pub output: Bytes,
+    pub end: End,
+    pub log: Log,
+}
+
+/// Writes the report of a run: the output and its length, the end, how many entries the log has of each kind, and the lines of
+/// the log, of which a short report has only those of authentications that nothing had signed. It takes no memory.
+pub fn report<K: Sink>(ran: &Ran, short: bool, out: &mut K) -> Result<(), Failed>
+    ensures all { OnOk result (Grew (K.written out.old) (K.written out.new) (report_text ran.now.output ran.now.end ran.now.log.entries short)) }
+    ensures prefix { OnErr result (GrewByPrefix (K.written out.old) (K.written out.new) (report_text ran.now.output ran.now.end ran.now.log.entries short)) }
+    ensures fault { OnErr result (Rose (K.faults out.old) (K.faults out.new)) }
+    ensures kept { K.faults out.old ≤ K.faults out.new }
+{
+    write_report(ran.output.as_slice(), ran.end, ran.log.entries(), short, out)
+}
 
 /// How many signatures the log has.
 fn signs(entries: &[Entry]) -> u64
