@@ -137,6 +137,22 @@ impl<'a> Reader<'a> {
         self.ahead = ahead;
     }
 
+    /// How long the separator here is.
+    fn separator(&self) -> Option<usize>
+        ensures { result ≡ reading.len_of (reading.separator_at self.now.ahead) }
+    {
+        separator_len(self.ahead)
+    }
+
+    /// Moves behind the separators.
+    pub fn skip(&mut self)
+        ensures { reading.Skips self.old self.new }
+    {
+        'separators: while let Some(count) = self.separator() {
+            self.advance(count);
+        }
+    }
+
     /// The rule that is broken where nothing begins.
     fn rule(&self) -> LexRule
         ensures { result ≡ lexes.rule_at self.now }
