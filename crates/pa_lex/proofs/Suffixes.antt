@@ -1,5 +1,5 @@
 -- The longest suffix of an integer constant is the one that is read.
-use Rattle.std.proofs.Common.{◌≡◌, ◌≢◌, ℕ, zero, suc, ◌+◌, ◌≤◌, ◌<◌, Bool, true, false, cond, ◌&&◌, ◌||◌, ◌==◌, nat_lt, List, [], ◌∷◌, ◌++◌, length, take, drop, refl, sym, ◌∙◌, ap, subst, arith, ◌⊎◌, inl, inr, codes, one-add, append_assoc, zero-add}
+use Rattle.std.proofs.Common.{◌≡◌, ◌≢◌, ℕ, zero, suc, ◌+◌, ◌≤◌, ◌<◌, Bool, true, false, cond, ◌&&◌, ◌||◌, ◌==◌, nat_lt, List, [], ◌∷◌, ◌++◌, length, take, drop, refl, sym, ◌∙◌, ap, subst, arith, ◌⊎◌, inl, inr, codes, one-add, append_assoc, zero-add, length-drop}
 use Rattle.std.proofs.lemmas.Bool.Decides.{nat_tests}
 use Rattle.std.specs.List.{list_all}
 use Rattle.std.proofs.lemmas.List.{append-nil}
@@ -143,3 +143,33 @@ suffix_passes s (u, l, h, k, inr e) = rw (e, list_all-append is_suffix_byte l u,
 -- a suffix begins with a u or an l
 pub suffix_first : (c : ℕ) (s : Text) → IsSuffix (c ∷ s) → is_suffix_byte c ≡ true
 suffix_first c s h = (both_true (is_suffix_byte c) (list_all is_suffix_byte s) (suffix_passes (c ∷ s) h)).0
+
+unsigned_within : (t : Text) → unsigned_len t ≤ length t
+unsigned_within [] = omega arith
+unsigned_within (c ∷ t) = by_test (is_u c)
+  where
+    by_test : (b : Bool) → cond b 1 0 ≤ suc (length t)
+    by_test true = omega arith
+    by_test false = omega arith
+
+long_within : (t : Text) → long_len t ≤ length t
+long_within [] = omega arith
+long_within (c ∷ []) = by_test (is_l c)
+  where
+    by_test : (b : Bool) → cond b 1 0 ≤ 1
+    by_test true = omega arith
+    by_test false = omega arith
+long_within (c ∷ (d ∷ t)) = by_tests (is_l c) (c == d)
+  where
+    by_tests : (a b : Bool) → cond a (cond b 2 1) 0 ≤ suc (suc (length t))
+    by_tests true true = omega arith
+    by_tests true false = omega arith
+    by_tests false b = omega arith
+
+pub suffix_within : (t : Text) → suffix_len t ≤ length t
+unfolding suffix_len
+suffix_within t = by_test (nat_lt 0 (unsigned_len t))
+  where
+    by_test : (b : Bool) → cond b (unsigned_len t + long_len (drop (unsigned_len t) t)) (long_len t + unsigned_len (drop (long_len t) t)) ≤ length t
+    by_test true = omega (arith, unsigned_within t, long_within (drop (unsigned_len t) t), length-drop (unsigned_len t) t)
+    by_test false = omega (arith, long_within t, unsigned_within (drop (long_len t) t), length-drop (long_len t) t)
