@@ -8,7 +8,7 @@ use Rattle.pa_lex.specs.declared.byte.Class.TheVariants.{Other}
 use Rattle.pa_lex.specs.Texts.{Text, punct_text, puncts_at}
 use Rattle.pa_lex.specs.Reading.{class_of}
 use Rattle.pa_lex.proofs.Runs.{if_true, if_false}
-use Rattle.pa_lex.proofs.Entries.{Among, is_ordered}
+use Rattle.pa_lex.proofs.Entries.{Listed, is_ordered}
 
 -- the first byte of a text
 abbrev pub head_of : Text → ℕ
@@ -19,7 +19,7 @@ head_of (c ∷ t) = c
 pub record IsMark (punct : Punct) : Type 0 where
   pub long : 1 ≤ length (punct_text punct)
   pub class_is : class_of (head_of (punct_text punct)) ≡ Other
-  pub listed : Among punct_text punct (puncts_at (head_of (punct_text punct)))
+  pub listed : Listed punct (puncts_at (head_of (punct_text punct)))
 
 pub is_mark : (punct : Punct) → IsMark punct
 is_mark p.LeftBracket = record { long = omega arith; class_is = refl; listed = inl refl }
