@@ -20,7 +20,7 @@ use Rattle.pa_lex.specs.Bytes.{is_letter, is_word, is_blank_line, begins}
 use Rattle.pa_lex.specs.Literals.{prefix, radix, may_lead, IsDigits, IsSuffix}
 use Rattle.pa_lex.specs.Forms.{Form, Word, Number, Quoted, Mark, Line, form_text, quote_byte, Fits, is_body}
 use Rattle.pa_lex.specs.Reading.{class_of, front, base_at, number_at, number_from, quoted_by, quoted_at, body_len, is_line, includes, lined, marked, punct_at, form_by, form_at}
-use Rattle.pa_lex.proofs.Runs.{if_true, if_false, both_true, heads, tails, run_bounds, run_passes}
+use Rattle.pa_lex.proofs.Runs.{if_true, if_false, both_true, heads, tails, differ, run_bounds, run_passes}
 use Rattle.pa_lex.proofs.Integers.{IsNumberAt, IsReadNumber, number_right}
 use Rattle.pa_lex.proofs.Quotes.{body_is, body_sound}
 use Rattle.pa_lex.proofs.Entries.{begins_splits, begins_joined, IsFirst, first_is, Listed, none_is, some_is}
@@ -239,12 +239,6 @@ include_listed : (include : Include) → Listed include includes
 include_listed Stdio = inl refl
 include_listed Stdint = inr (inl refl)
 include_listed Ptrauth = inr (inr (inl refl))
-
-differ : (c d : ℕ) {t u : Text} → (c == d) ≡ false → c ∷ t ≡ d ∷ u → ⊥
-differ c d h e = let same : c ≡ d = heads e in unequal c d h same
-  where
-    unequal : (c d : ℕ) → (c == d) ≡ false → c ≡ d → ⊥
-    unequal c d h e = grind (arith, nat_tests)
 
 one_include : (a b : Include) (x y : Text) → include_text a ++ x ≡ include_text b ++ y → a ≡ b
 one_include Stdio Stdio x y e = refl
