@@ -46,7 +46,7 @@ form_rest form first text rest h = rw h.text_is (sym (drop-append_seam (form_tex
 at_front : (form : Form) (first : Bool) (text rest : Text) → IsFormOf form first text rest → IsFormOf form first text (drop (length (form_text form)) text)
 at_front form first text rest h = subst (IsFormOf form first text) (form_rest form first text rest h) h
 
-abbrev form_class : Form → Class
+abbrev pub form_class : Form → Class
 form_class (Word text) = Letter
 form_class (Number base digits suffix) = Digit
 form_class (Quoted Single body) = Apostrophe
@@ -60,7 +60,7 @@ letter_class c h = rw h refl
 digit_class : (c : ℕ) → is_digit c 10 ≡ true → class_of c ≡ Digit
 digit_class c h = let no_letter : is_letter c ≡ false = grind (arith, nat_tests) in rw no_letter (if_true (λ k. k ≡ Digit) (is_digit c 10) _ _ h refl)
 
-head_append : (a b t : Text) (c : ℕ) → 1 ≤ length a → c ∷ t ≡ a ++ b → c ≡ head_of a
+pub head_append : (a b t : Text) (c : ℕ) → 1 ≤ length a → c ∷ t ≡ a ++ b → c ≡ head_of a
 head_append [] b t c l e = absurd (omega arith)
 head_append (d ∷ a) b t c l e = heads e
 
@@ -68,7 +68,7 @@ zero_class : (c d : ℕ) → c ≡ d → (d == 48) ≡ true → class_of c ≡ D
 zero_class c d e h = let z : d ≡ 48 = grind (arith, nat_tests) in rw (e, z) refl
 
 -- the byte that a form begins with
-class_is : (form : Form) (first : Bool) (c : ℕ) (t rest : Text) → IsFormOf form first (c ∷ t) rest → class_of c ≡ form_class form
+pub class_is : (form : Form) (first : Bool) (c : ℕ) (t rest : Text) → IsFormOf form first (c ∷ t) rest → class_of c ≡ form_class form
 class_is (Word []) first c t rest h = elim h.fits [ ]
 class_is (Word (d ∷ w)) first c t rest h = rw (heads h.text_is) (letter_class d h.fits.0)
 class_is (Number Decimal [] suffix) first c t rest h = elim h.fits.0 [ ]
@@ -240,7 +240,7 @@ include_listed Stdio = inl refl
 include_listed Stdint = inr (inl refl)
 include_listed Ptrauth = inr (inr (inl refl))
 
-one_include : (a b : Include) (x y : Text) → include_text a ++ x ≡ include_text b ++ y → a ≡ b
+pub one_include : (a b : Include) (x y : Text) → include_text a ++ x ≡ include_text b ++ y → a ≡ b
 one_include Stdio Stdio x y e = refl
 one_include Stdint Stdint x y e = refl
 one_include Ptrauth Ptrauth x y e = refl
