@@ -2,6 +2,7 @@
 use Rattle.std.proofs.Common.{◌≡◌, ◌≢◌, ℕ, zero, suc, ◌+◌, ◌≤◌, ◌<◌, Bool, true, false, cond, not, ◌&&◌, ◌||◌, ◌==◌, List, [], ◌∷◌, ◌++◌, length, take, drop, refl, sym, ◌∙◌, ap, subst, arith, Option, Some, None, codes, inl, inr, ◌⊎◌, length-append}
 use Rattle.std.proofs.lemmas.Bool.Decides.{nat_tests}
 use Rattle.std.proofs.lemmas.List.{append_cancel_right}
+use Rattle.std.specs.Int.{cast_signed, w8}
 use Rattle.pa_lex.specs.declared.byte.Class.{Class}
 use Rattle.pa_lex.specs.declared.byte.Class.TheVariants.{Letter, Digit, Apostrophe, DoubleQuote, Hash, Other}
 use Rattle.pa_lex.specs.declared.form.Quote.{Quote}
@@ -73,3 +74,99 @@ longest_one f g cursor rest r h l i m =
     let a = l g r i in
     let b = m f rest h in
     one_by f g cursor.first cursor.ahead rest r (form_of f cursor rest h) (form_of g cursor r i) (omega arith)
+
+keyword_one : (a b : Keyword) → keyword_text a ≡ keyword_text b → a ≡ b
+keyword_one a b e = let h : Some a ≡ Some b = sym (keyword_is a) ∙ ap keyword_of e ∙ keyword_is b in cc
+
+integer_one : (value other : ℕ) (d u l e v m : Bool) → value ≡ other → d ≡ e → u ≡ v → l ≡ m → k.Integer value d u l ≡ k.Integer other e v m
+integer_one value other d u l e v m p q r s = ap (λ x. k.Integer x d u l) p ∙ ap (λ x. k.Integer other x u l) q ∙ ap (λ x. k.Integer other e x l) r ∙ ap (λ x. k.Integer other e v x) s
+
+-- a form means one kind at most
+pub means_one : (form : Form) (a b : Kind) → Means form a → Means form b → a ≡ b
+means_one (Word w) (k.Keyword a) (k.Keyword b) h i = ap k.Keyword (keyword_one a b (sym h ∙ i))
+means_one (Word w) (k.Keyword a) (k.Name n) h i = absurd (i.1 a h)
+means_one (Word w) (k.Name n) (k.Keyword b) h i = absurd (h.1 b i)
+means_one (Word w) (k.Name n) (k.Name m) h i = ap k.Name (sym h.0 ∙ i.0)
+means_one (Word w) (k.Keyword a) b h i = elim i [ ]
+means_one (Word w) (k.Name n) b h i = elim i [ ]
+means_one (Word w) a b h i = elim h [ ]
+means_one (Number base ds s) (k.Integer v d u l) (k.Integer w e x m) h i =
+    integer_one v w d u l e x m (h.value_is ∙ sym i.value_is) (h.decimal_is ∙ sym i.decimal_is) (h.unsigned_is ∙ sym i.unsigned_is) (h.long_is ∙ sym i.long_is)
+means_one (Number base ds s) (k.Integer v d u l) b h i = elim i [ ]
+means_one (Number base ds s) a b h i = elim h [ ]
+means_one (Quoted Single body) (k.Character v) (k.Character w) (a, r, p) (b, s, q) =
+    let same : a ≡ b = heads (stands_one (a ∷ []) (b ∷ []) body r s) in ap k.Character (p ∙ ap (cast_signed w8) same ∙ sym q)
+means_one (Quoted Single body) (k.Character v) b h i = elim i [ ]
+means_one (Quoted Single body) a b h i = elim h [ ]
+means_one (Quoted Double body) (k.Text v) (k.Text w) h i = ap k.Text (stands_one v w body h i)
+means_one (Quoted Double body) (k.Text v) b h i = elim i [ ]
+means_one (Quoted Double body) a b h i = elim h [ ]
+means_one (Mark p) (k.Punct v) (k.Punct w) h i = ap k.Punct (sym h ∙ i)
+means_one (Mark p) (k.Punct v) b h i = elim i [ ]
+means_one (Mark p) a b h i = elim h [ ]
+means_one (Line p) (k.Include v) (k.Include w) h i = ap k.Include (sym h ∙ i)
+means_one (Line p) (k.Include v) b h i = elim i [ ]
+means_one (Line p) a b h i = elim h [ ]
+
+token_by : (a b : Token) → a.kind ≡ b.kind → a.from ≡ b.from → a.to ≡ b.to → a ≡ b
+token_by a b p q r =
+    ap (λ x. record { kind = x; from = a.from; to = a.to }) p ∙ ap (λ x. record { kind = b.kind; from = x; to = a.to }) q ∙ ap (λ x. record { kind = b.kind; from = b.from; to = x }) r
+
+pub record IsSameToken (a b : Token) (f g : Form) (rest r : Text) : Type 0 where
+  pub tokens : a ≡ b
+  pub forms : f ≡ g
+  pub rests : rest ≡ r
+
+-- one token at most is at a place
+pub token_one : (a b : Token) (f g : Form) (cursor : Cursor) (rest r : Text) → IsTokenAt a f cursor rest → IsTokenAt b g cursor r → IsSameToken a b f g rest r
+token_one a b f g cursor rest r h i =
+    let s = longest_one f g cursor rest r h.here h.longest i.here i.longest in
+    let m : Means f b.kind = subst (λ x. Means x b.kind) (sym s.0) i.means in
+    record {
+      tokens = token_by a b (means_one f a.kind b.kind h.means m) (h.from_is ∙ sym i.from_is) (h.to_is ∙ ap (λ x. cursor.at + length (form_text x)) s.0 ∙ sym i.to_is);
+      forms = s.0;
+      rests = s.1;
+    }
+
+white_class : (c : ℕ) → is_white c ≡ true → class_of c ≡ Other
+white_class c h = by_tests (c == 32) (c == 9) (c == 13) (c == 10) refl refl refl refl h
+  where
+    by_tests : (a b d e : Bool) → (c == 32) ≡ a → (c == 9) ≡ b → (c == 13) ≡ d → (c == 10) ≡ e → ((a || (b || d)) || e) ≡ true → class_of c ≡ Other
+    by_tests true b d e p q r s w = let z : c ≡ 32 = grind (arith, nat_tests) in rw z refl
+    by_tests false true d e p q r s w = let z : c ≡ 9 = grind (arith, nat_tests) in rw z refl
+    by_tests false false true e p q r s w = let z : c ≡ 13 = grind (arith, nat_tests) in rw z refl
+    by_tests false false false true p q r s w = let z : c ≡ 10 = grind (arith, nat_tests) in rw z refl
+    by_tests false false false false p q r s w = cc
+
+-- no form begins with a white byte
+not_white : (form : Form) (first : Bool) (c : ℕ) (t rest : Text) → is_white c ≡ true → IsFormOf form first (c ∷ t) rest → ⊥
+not_white (Mark p) first c t rest w h =
+    let m = is_mark p in
+    let e : c ≡ head_of (punct_text p) = head_append (punct_text p) rest t c m.long h.text_is in
+    let z : true ≡ false = sym w ∙ ap is_white e ∙ m.not_white in cc
+not_white (Quoted Single v) first c t rest w h = let z = sym (white_class c w) ∙ class_is (Quoted Single v) first c t rest h in cc
+not_white (Quoted Double v) first c t rest w h = let z = sym (white_class c w) ∙ class_is (Quoted Double v) first c t rest h in cc
+not_white form first c t rest w h = let z = sym (white_class c w) ∙ class_is form first c t rest h in cc
+
+opened : (text : Text) → begins text (codes "/*") ≡ true → opens_comment text ≡ true
+opened text h = rw h refl
+
+opened_line : (text : Text) → begins text (codes "//") ≡ true → opens_comment text ≡ true
+opened_line text h = rw h (or_true (begins text (codes "/*")))
+  where
+    or_true : (b : Bool) → (b || true) ≡ true
+    or_true true = refl
+    or_true false = refl
+
+-- where a form begins no separator does
+no_separator : (form : Form) (cursor : Cursor) (rest : Text) → IsFormAt form cursor rest → (separator : Separator) (r : Text) → IsSeparatorAt separator cursor.ahead r → ⊥
+no_separator form cursor rest h (White c) r s = not_white form cursor.first c r rest s.fits (subst (λ t. IsFormOf form cursor.first t rest) s.text_is (form_of form cursor rest h))
+no_separator form cursor rest h (BlockComment body) r s =
+    let o = opened cursor.ahead (begins_joined cursor.ahead (codes "/*") ((body ++ codes "*/") ++ r) s.text_is) in
+    let z : true ≡ false = sym o ∙ h.no_comment in cc
+no_separator form cursor rest h (LineComment body) r s =
+    let o = opened_line cursor.ahead (begins_joined cursor.ahead (codes "//") (body ++ r) s.text_is) in
+    let z : true ≡ false = sym o ∙ h.no_comment in cc
+
+pub form_stops : (form : Form) (cursor : Cursor) (rest : Text) → IsFormAt form cursor rest → separator_at cursor.ahead ≡ None
+form_stops form cursor rest h = none_separator cursor.ahead (no_separator form cursor rest h)
