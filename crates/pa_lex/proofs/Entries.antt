@@ -30,6 +30,11 @@ not_true : (a : Bool) → not a ≡ true → a ≡ false
 not_true true e = cc
 not_true false e = refl
 
+-- an entry of a list
+abbrev pub Listed : {P : Type 0} → P → List P → Type 0
+Listed q [] = ⊥
+Listed q (p ∷ ps) = (p ≡ q) ⊎ Listed q ps
+
 module _ {P : Type 0} (text : P → Text) where
   -- the entry begins none of these
   abbrev pub begins_none : P → List P → Bool
@@ -39,20 +44,16 @@ module _ {P : Type 0} (text : P → Text) where
   is_ordered [] = true
   is_ordered (p ∷ ps) = begins_none p ps && is_ordered ps
 
-  abbrev pub Among : P → List P → Type 0
-  Among q [] = ⊥
-  Among q (p ∷ ps) = (p ≡ q) ⊎ Among q ps
-
-  begins_not : (p q : P) (ps : List P) → begins_none p ps ≡ true → Among q ps → begins (text q) (text p) ≡ false
+  begins_not : (p q : P) (ps : List P) → begins_none p ps ≡ true → Listed q ps → begins (text q) (text p) ≡ false
   begins_not p q [] h m = elim m [ ]
   begins_not p q (x ∷ ps) h (inl e) = let a = both_true (not (begins (text x) (text p))) (begins_none p ps) h in rw (← e) (not_true (begins (text x) (text p)) a.0)
   begins_not p q (x ∷ ps) h (inr m) = let a = both_true (not (begins (text x) (text p))) (begins_none p ps) h in begins_not p q ps a.1 m
 
   pub record IsFirst (t : Text) (ps : List P) (p : P) : Type 0 where
     pub here : begins t (text p) ≡ true
-    pub longest : (q : P) → Among q ps → begins t (text q) ≡ true → length (text q) ≤ length (text p)
+    pub longest : (q : P) → Listed q ps → begins t (text q) ≡ true → length (text q) ≤ length (text p)
 
-  front_longest : (t : Text) (p : P) (ps : List P) → begins_none p ps ≡ true → begins t (text p) ≡ true → (q : P) → Among q (p ∷ ps) → begins t (text q) ≡ true → length (text q) ≤ length (text p)
+  front_longest : (t : Text) (p : P) (ps : List P) → begins_none p ps ≡ true → begins t (text p) ≡ true → (q : P) → Listed q (p ∷ ps) → begins t (text q) ≡ true → length (text q) ≤ length (text p)
   front_longest t p ps o h q (inl same) g = rw same (omega arith)
   front_longest t p ps o h q (inr m) g = elim (total (length (text q)) (length (text p))) [
     | inl le ↦ le
@@ -67,7 +68,7 @@ module _ {P : Type 0} (text : P → Text) where
   first_by t p ps true o h f x e = let same : p ≡ x = cc in rw (← same) (record { here = h; longest = λ q m g. front_longest t p ps (both_true (begins_none p ps) (is_ordered ps) o).0 h q m g })
   first_by t p ps false o h f x e = let r = f x e in record { here = r.here; longest = λ q m g. later q m g r }
     where
-      later : (q : P) → Among q (p ∷ ps) → begins t (text q) ≡ true → IsFirst t ps x → length (text q) ≤ length (text x)
+      later : (q : P) → Listed q (p ∷ ps) → begins t (text q) ≡ true → IsFirst t ps x → length (text q) ≤ length (text x)
       later q (inl same) g r = let bad : begins t (text q) ≡ false = rw (← same) h in cc
       later q (inr m) g r = r.longest q m g
 
@@ -77,10 +78,6 @@ module _ {P : Type 0} (text : P → Text) where
   first_is t (p ∷ ps) o x e = first_by t p ps (begins t (text p)) o refl (first_is t ps (both_true (begins_none p ps) (is_ordered ps) o).1) x e
 
 module _ {P : Type 0} (test : P → Bool) where
-  abbrev pub Listed : P → List P → Type 0
-  Listed q [] = ⊥
-  Listed q (p ∷ ps) = (p ≡ q) ⊎ Listed q ps
-
   none_by : (p : P) (ps : List P) (b : Bool) → test p ≡ b → cond b (Some p) (find test ps) ≡ None → ((q : P) → Listed q ps → test q ≡ false) → (q : P) → Listed q (p ∷ ps) → test q ≡ false
   none_by p ps true h e f q m = cc
   none_by p ps false h e f q (inl same) = rw (← same) h

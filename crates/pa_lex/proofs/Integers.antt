@@ -3,7 +3,7 @@ use Rattle.std.proofs.Common.{◌≡◌, ◌≢◌, ℕ, zero, suc, ◌+◌, ◌
 use Rattle.std.specs.List.{prefix_len, list_all}
 use Rattle.std.specs.Char.{is_digit}
 use Rattle.std.proofs.lemmas.Bool.Decides.{nat_tests}
-use Rattle.std.proofs.lemmas.List.{take-append-drop, length-take-le}
+use Rattle.std.proofs.lemmas.List.{take-append-drop, length-take-le, append-nil, append_cancel_left}
 use Rattle.std.proofs.lemmas.List.Sums.{prefix_len-le-length}
 use Rattle.std.proofs.Math.Seq.{drop-append_seam}
 use Rattle.pa_lex.specs.declared.form.Base.{Base}
@@ -11,7 +11,7 @@ use Rattle.pa_lex.specs.declared.form.Base.TheVariants.{Decimal, Octal, LowerHex
 use Rattle.pa_lex.specs.Texts.{Text}
 use Rattle.pa_lex.specs.Literals.{prefix, radix, may_lead, IsDigits, IsSuffix}
 use Rattle.pa_lex.specs.Reading.{suffix_len, base_at, hexadecimal_at, next_is}
-use Rattle.pa_lex.proofs.Runs.{if_true, if_false, both_true, heads, tails, StopsRun, run_bounds, run_is, run_passes}
+use Rattle.pa_lex.proofs.Runs.{if_true, if_false, both_true, heads, tails, differ, StopsRun, run_bounds, run_is, run_passes, same_front}
 use Rattle.pa_lex.proofs.Suffixes.{suffix_longest, suffix_fits, suffix_first, suffix_within, is_suffix_byte}
 
 -- an integer constant of these parts begins a text
@@ -220,3 +220,61 @@ by_base c t UpperHexadecimal h e f = let same = f.text_is in subst (λ x. IsRead
 -- The longest integer constant is read where a text begins with a digit.
 pub number_right : (c : ℕ) (t : Text) → is_digit c 10 ≡ true → IsReadNumber (base_at (c ∷ t)) (behind (base_at (c ∷ t)) (c ∷ t)) (c ∷ t)
 number_right c t h = by_base c t (base_at (c ∷ t)) h refl (base_by c t (c == 48) refl)
+
+suffix_stops : (base : Base) (s : Text) → IsSuffix s → StopsRun (digit_of base) s
+suffix_stops base [] h = tt
+suffix_stops base (c ∷ s) h = suffix_apart base c (suffix_first c s h)
+
+-- the digits of one base and the suffix behind them are found in their text
+pub parts_same : (base : Base) (ds s es r : Text) → IsDigits base ds → IsSuffix s → IsDigits base es → IsSuffix r → ds ++ s ≡ es ++ r → (ds ≡ es) × (s ≡ r)
+parts_same base ds s es r h k i j e =
+    let m = run_is (digit_of base) ds s (digits_pass base ds h) (suffix_stops base s k) in
+    let n = run_is (digit_of base) es r (digits_pass base es i) (suffix_stops base r j) in
+    same_front ds es s r e (sym m ∙ ap (prefix_len (digit_of base)) e ∙ n)
+
+whole : (base : Base) (ds s : Text) → IsDigits base ds → IsSuffix s → IsNumberAt base ds s (prefix base ++ (ds ++ s)) []
+whole base ds s h k = record { text_is = sym (append-nil (prefix base ++ (ds ++ s))); digits_fit = h; suffix_fits = k }
+
+pub record IsSameNumber (a b : Base) (ds s es r : Text) : Type 0 where
+  pub bases : a ≡ b
+  pub digits : ds ≡ es
+  pub suffixes : s ≡ r
+
+one_base : (base : Base) (ds s es r : Text) → IsDigits base ds → IsSuffix s → IsDigits base es → IsSuffix r → prefix base ++ (ds ++ s) ≡ prefix base ++ (es ++ r) → IsSameNumber base base ds s es r
+one_base base ds s es r h k i j e = let (d, t) = parts_same base ds s es r h k i j (append_cancel_left (prefix base) (ds ++ s) (es ++ r) e) in record { bases = refl; digits = d; suffixes = t }
+
+octal_not : (x : ℕ) (ds s es r : Text) → is_digit x 8 ≡ false → is_suffix_byte x ≡ false → IsDigits Octal ds → IsSuffix s → IsDigits LowerHexadecimal es → ds ++ s ≡ 48 ∷ (x ∷ (es ++ r)) → ⊥
+octal_not x ds s [] r o n h k i e = elim i [ ]
+octal_not x ds s (d ∷ es) r o n h k i e =
+    let w = whole Octal ds s h k in
+    let z : IsNumberAt Octal ds s (48 ∷ (x ∷ ((d ∷ es) ++ r))) [] = subst (λ t. IsNumberAt Octal ds s t []) e w in
+    let l = octal_short ds s [] 48 x ((d ∷ es) ++ r) o n z in
+    let m = ap length e in
+    absurd (omega arith)
+
+decimal_not : (ds s t : Text) → IsDigits Decimal ds → ds ++ s ≡ 48 ∷ t → ⊥
+decimal_not [] s t h e = elim h [ ]
+decimal_not (d ∷ ds) s t h e = let z : d ≡ 48 = heads e in let f : not (48 == 48) ≡ true = subst (λ x. not (x == 48) ≡ true) z h.0 in cc
+
+octal_head : (ds s : Text) → IsDigits Octal ds → (t : Text) × (ds ++ s ≡ 48 ∷ t)
+octal_head [] s h = elim h [ ]
+octal_head (d ∷ ds) s h = let z : d ≡ 48 = grind (arith, nat_tests) in (ds ++ s, rw z refl)
+
+-- one text, one constant
+pub number_same : (a b : Base) (ds s es r : Text) → IsDigits a ds → IsSuffix s → IsDigits b es → IsSuffix r → prefix a ++ (ds ++ s) ≡ prefix b ++ (es ++ r) → IsSameNumber a b ds s es r
+number_same Decimal Decimal ds s es r h k i j e = one_base Decimal ds s es r h k i j e
+number_same Octal Octal ds s es r h k i j e = one_base Octal ds s es r h k i j e
+number_same LowerHexadecimal LowerHexadecimal ds s es r h k i j e = one_base LowerHexadecimal ds s es r h k i j e
+number_same UpperHexadecimal UpperHexadecimal ds s es r h k i j e = one_base UpperHexadecimal ds s es r h k i j e
+number_same Decimal Octal ds s es r h k i j e = let (t, f) = octal_head es r i in absurd (decimal_not ds s t h (e ∙ f))
+number_same Decimal LowerHexadecimal ds s es r h k i j e = absurd (decimal_not ds s (120 ∷ (es ++ r)) h e)
+number_same Decimal UpperHexadecimal ds s es r h k i j e = absurd (decimal_not ds s (88 ∷ (es ++ r)) h e)
+number_same Octal Decimal ds s es r h k i j e = let (t, f) = octal_head ds s h in absurd (decimal_not es r t i (sym e ∙ f))
+number_same Octal LowerHexadecimal ds s es r h k i j e = absurd (octal_not 120 ds s es r refl refl h k i e)
+number_same Octal UpperHexadecimal ds s es r h k i j e = absurd (octal_not 88 ds s es r refl refl h k i e)
+number_same LowerHexadecimal Decimal ds s es r h k i j e = absurd (decimal_not es r (120 ∷ (ds ++ s)) i (sym e))
+number_same LowerHexadecimal Octal ds s es r h k i j e = absurd (octal_not 120 es r ds s refl refl i j h (sym e))
+number_same LowerHexadecimal UpperHexadecimal ds s es r h k i j e = absurd (differ 120 88 refl (tails e))
+number_same UpperHexadecimal Decimal ds s es r h k i j e = absurd (decimal_not es r (88 ∷ (ds ++ s)) i (sym e))
+number_same UpperHexadecimal Octal ds s es r h k i j e = absurd (octal_not 88 es r ds s refl refl i j h (sym e))
+number_same UpperHexadecimal LowerHexadecimal ds s es r h k i j e = absurd (differ 88 120 refl (tails e))

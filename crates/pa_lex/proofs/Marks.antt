@@ -6,9 +6,10 @@ use Rattle.pa_lex.specs.declared.token.Punct.{Punct}
 use Rattle.pa_lex.specs.declared.token.Punct.TheVariants as p
 use Rattle.pa_lex.specs.declared.byte.Class.TheVariants.{Other}
 use Rattle.pa_lex.specs.Texts.{Text, punct_text, puncts_at}
+use Rattle.pa_lex.specs.Bytes.{is_white}
 use Rattle.pa_lex.specs.Reading.{class_of}
 use Rattle.pa_lex.proofs.Runs.{if_true, if_false}
-use Rattle.pa_lex.proofs.Entries.{Among, is_ordered}
+use Rattle.pa_lex.proofs.Entries.{Listed, is_ordered}
 
 -- the first byte of a text
 abbrev pub head_of : Text → ℕ
@@ -19,55 +20,56 @@ head_of (c ∷ t) = c
 pub record IsMark (punct : Punct) : Type 0 where
   pub long : 1 ≤ length (punct_text punct)
   pub class_is : class_of (head_of (punct_text punct)) ≡ Other
-  pub listed : Among punct_text punct (puncts_at (head_of (punct_text punct)))
+  pub not_white : is_white (head_of (punct_text punct)) ≡ false
+  pub listed : Listed punct (puncts_at (head_of (punct_text punct)))
 
 pub is_mark : (punct : Punct) → IsMark punct
-is_mark p.LeftBracket = record { long = omega arith; class_is = refl; listed = inl refl }
-is_mark p.RightBracket = record { long = omega arith; class_is = refl; listed = inl refl }
-is_mark p.LeftParenthesis = record { long = omega arith; class_is = refl; listed = inl refl }
-is_mark p.RightParenthesis = record { long = omega arith; class_is = refl; listed = inl refl }
-is_mark p.LeftBrace = record { long = omega arith; class_is = refl; listed = inl refl }
-is_mark p.RightBrace = record { long = omega arith; class_is = refl; listed = inl refl }
-is_mark p.Dot = record { long = omega arith; class_is = refl; listed = inr (inl refl) }
-is_mark p.Arrow = record { long = omega arith; class_is = refl; listed = inl refl }
-is_mark p.Increment = record { long = omega arith; class_is = refl; listed = inl refl }
-is_mark p.Decrement = record { long = omega arith; class_is = refl; listed = inr (inl refl) }
-is_mark p.Ampersand = record { long = omega arith; class_is = refl; listed = inr (inr (inl refl)) }
-is_mark p.Star = record { long = omega arith; class_is = refl; listed = inr (inl refl) }
-is_mark p.Plus = record { long = omega arith; class_is = refl; listed = inr (inr (inl refl)) }
-is_mark p.Minus = record { long = omega arith; class_is = refl; listed = inr (inr (inr (inl refl))) }
-is_mark p.Tilde = record { long = omega arith; class_is = refl; listed = inl refl }
-is_mark p.Exclamation = record { long = omega arith; class_is = refl; listed = inr (inl refl) }
-is_mark p.Slash = record { long = omega arith; class_is = refl; listed = inr (inl refl) }
-is_mark p.Percent = record { long = omega arith; class_is = refl; listed = inr (inl refl) }
-is_mark p.ShiftLeft = record { long = omega arith; class_is = refl; listed = inr (inl refl) }
-is_mark p.ShiftRight = record { long = omega arith; class_is = refl; listed = inr (inl refl) }
-is_mark p.Less = record { long = omega arith; class_is = refl; listed = inr (inr (inr (inl refl))) }
-is_mark p.Greater = record { long = omega arith; class_is = refl; listed = inr (inr (inr (inl refl))) }
-is_mark p.LessEqual = record { long = omega arith; class_is = refl; listed = inr (inr (inl refl)) }
-is_mark p.GreaterEqual = record { long = omega arith; class_is = refl; listed = inr (inr (inl refl)) }
-is_mark p.Equal = record { long = omega arith; class_is = refl; listed = inl refl }
-is_mark p.NotEqual = record { long = omega arith; class_is = refl; listed = inl refl }
-is_mark p.Caret = record { long = omega arith; class_is = refl; listed = inr (inl refl) }
-is_mark p.Bar = record { long = omega arith; class_is = refl; listed = inr (inr (inl refl)) }
-is_mark p.LogicalAnd = record { long = omega arith; class_is = refl; listed = inl refl }
-is_mark p.LogicalOr = record { long = omega arith; class_is = refl; listed = inl refl }
-is_mark p.Question = record { long = omega arith; class_is = refl; listed = inl refl }
-is_mark p.Colon = record { long = omega arith; class_is = refl; listed = inl refl }
-is_mark p.Semicolon = record { long = omega arith; class_is = refl; listed = inl refl }
-is_mark p.Ellipsis = record { long = omega arith; class_is = refl; listed = inl refl }
-is_mark p.Assign = record { long = omega arith; class_is = refl; listed = inr (inl refl) }
-is_mark p.MultiplyAssign = record { long = omega arith; class_is = refl; listed = inl refl }
-is_mark p.DivideAssign = record { long = omega arith; class_is = refl; listed = inl refl }
-is_mark p.RemainderAssign = record { long = omega arith; class_is = refl; listed = inl refl }
-is_mark p.AddAssign = record { long = omega arith; class_is = refl; listed = inr (inl refl) }
-is_mark p.SubtractAssign = record { long = omega arith; class_is = refl; listed = inr (inr (inl refl)) }
-is_mark p.ShiftLeftAssign = record { long = omega arith; class_is = refl; listed = inl refl }
-is_mark p.ShiftRightAssign = record { long = omega arith; class_is = refl; listed = inl refl }
-is_mark p.AndAssign = record { long = omega arith; class_is = refl; listed = inr (inl refl) }
-is_mark p.XorAssign = record { long = omega arith; class_is = refl; listed = inl refl }
-is_mark p.OrAssign = record { long = omega arith; class_is = refl; listed = inr (inl refl) }
-is_mark p.Comma = record { long = omega arith; class_is = refl; listed = inl refl }
+is_mark p.LeftBracket = record { long = omega arith; class_is = refl; not_white = refl; listed = inl refl }
+is_mark p.RightBracket = record { long = omega arith; class_is = refl; not_white = refl; listed = inl refl }
+is_mark p.LeftParenthesis = record { long = omega arith; class_is = refl; not_white = refl; listed = inl refl }
+is_mark p.RightParenthesis = record { long = omega arith; class_is = refl; not_white = refl; listed = inl refl }
+is_mark p.LeftBrace = record { long = omega arith; class_is = refl; not_white = refl; listed = inl refl }
+is_mark p.RightBrace = record { long = omega arith; class_is = refl; not_white = refl; listed = inl refl }
+is_mark p.Dot = record { long = omega arith; class_is = refl; not_white = refl; listed = inr (inl refl) }
+is_mark p.Arrow = record { long = omega arith; class_is = refl; not_white = refl; listed = inl refl }
+is_mark p.Increment = record { long = omega arith; class_is = refl; not_white = refl; listed = inl refl }
+is_mark p.Decrement = record { long = omega arith; class_is = refl; not_white = refl; listed = inr (inl refl) }
+is_mark p.Ampersand = record { long = omega arith; class_is = refl; not_white = refl; listed = inr (inr (inl refl)) }
+is_mark p.Star = record { long = omega arith; class_is = refl; not_white = refl; listed = inr (inl refl) }
+is_mark p.Plus = record { long = omega arith; class_is = refl; not_white = refl; listed = inr (inr (inl refl)) }
+is_mark p.Minus = record { long = omega arith; class_is = refl; not_white = refl; listed = inr (inr (inr (inl refl))) }
+is_mark p.Tilde = record { long = omega arith; class_is = refl; not_white = refl; listed = inl refl }
+is_mark p.Exclamation = record { long = omega arith; class_is = refl; not_white = refl; listed = inr (inl refl) }
+is_mark p.Slash = record { long = omega arith; class_is = refl; not_white = refl; listed = inr (inl refl) }
+is_mark p.Percent = record { long = omega arith; class_is = refl; not_white = refl; listed = inr (inl refl) }
+is_mark p.ShiftLeft = record { long = omega arith; class_is = refl; not_white = refl; listed = inr (inl refl) }
+is_mark p.ShiftRight = record { long = omega arith; class_is = refl; not_white = refl; listed = inr (inl refl) }
+is_mark p.Less = record { long = omega arith; class_is = refl; not_white = refl; listed = inr (inr (inr (inl refl))) }
+is_mark p.Greater = record { long = omega arith; class_is = refl; not_white = refl; listed = inr (inr (inr (inl refl))) }
+is_mark p.LessEqual = record { long = omega arith; class_is = refl; not_white = refl; listed = inr (inr (inl refl)) }
+is_mark p.GreaterEqual = record { long = omega arith; class_is = refl; not_white = refl; listed = inr (inr (inl refl)) }
+is_mark p.Equal = record { long = omega arith; class_is = refl; not_white = refl; listed = inl refl }
+is_mark p.NotEqual = record { long = omega arith; class_is = refl; not_white = refl; listed = inl refl }
+is_mark p.Caret = record { long = omega arith; class_is = refl; not_white = refl; listed = inr (inl refl) }
+is_mark p.Bar = record { long = omega arith; class_is = refl; not_white = refl; listed = inr (inr (inl refl)) }
+is_mark p.LogicalAnd = record { long = omega arith; class_is = refl; not_white = refl; listed = inl refl }
+is_mark p.LogicalOr = record { long = omega arith; class_is = refl; not_white = refl; listed = inl refl }
+is_mark p.Question = record { long = omega arith; class_is = refl; not_white = refl; listed = inl refl }
+is_mark p.Colon = record { long = omega arith; class_is = refl; not_white = refl; listed = inl refl }
+is_mark p.Semicolon = record { long = omega arith; class_is = refl; not_white = refl; listed = inl refl }
+is_mark p.Ellipsis = record { long = omega arith; class_is = refl; not_white = refl; listed = inl refl }
+is_mark p.Assign = record { long = omega arith; class_is = refl; not_white = refl; listed = inr (inl refl) }
+is_mark p.MultiplyAssign = record { long = omega arith; class_is = refl; not_white = refl; listed = inl refl }
+is_mark p.DivideAssign = record { long = omega arith; class_is = refl; not_white = refl; listed = inl refl }
+is_mark p.RemainderAssign = record { long = omega arith; class_is = refl; not_white = refl; listed = inl refl }
+is_mark p.AddAssign = record { long = omega arith; class_is = refl; not_white = refl; listed = inr (inl refl) }
+is_mark p.SubtractAssign = record { long = omega arith; class_is = refl; not_white = refl; listed = inr (inr (inl refl)) }
+is_mark p.ShiftLeftAssign = record { long = omega arith; class_is = refl; not_white = refl; listed = inl refl }
+is_mark p.ShiftRightAssign = record { long = omega arith; class_is = refl; not_white = refl; listed = inl refl }
+is_mark p.AndAssign = record { long = omega arith; class_is = refl; not_white = refl; listed = inr (inl refl) }
+is_mark p.XorAssign = record { long = omega arith; class_is = refl; not_white = refl; listed = inl refl }
+is_mark p.OrAssign = record { long = omega arith; class_is = refl; not_white = refl; listed = inr (inl refl) }
+is_mark p.Comma = record { long = omega arith; class_is = refl; not_white = refl; listed = inl refl }
 
 abbrev IsOrdered : List Punct → Type 0
 IsOrdered ps = is_ordered punct_text ps ≡ true

@@ -84,3 +84,10 @@ run_stops_by p x xs false e h = e
 pub run_stops : (p : ℕ → Bool) (xs : List ℕ) → StopsRun p (drop (prefix_len p xs) xs)
 run_stops p [] = tt
 run_stops p (x ∷ xs) = run_stops_by p x xs (p x) refl (run_stops p xs)
+
+unequal : (c d : ℕ) → (c == d) ≡ false → c ≡ d → ⊥
+unequal c d h e = grind (arith, nat_tests)
+
+-- two texts with different first bytes are two
+pub differ : (c d : ℕ) {t u : List ℕ} → (c == d) ≡ false → c ∷ t ≡ d ∷ u → ⊥
+differ c d h e = unequal c d h (heads e)
