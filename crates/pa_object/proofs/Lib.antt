@@ -1,3 +1,4 @@
 pub mod Placed
 pub mod Steps
 pub mod StepsRun
+pub mod Growth
