@@ -3,3 +3,4 @@ pub mod Steps
 pub mod StepsLeads
 pub mod StepsRun
 pub mod WordSizes
+pub mod Growth
