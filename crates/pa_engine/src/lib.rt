@@ -3,6 +3,8 @@
 
 mod page;
 mod reports;
+#[cfg(test)]
+mod tests;
 mod text;
 
 pub use page::Page;

@@ -140,7 +140,7 @@ fn write_lines<K: Sink>(page: &mut Page, entries: &[Entry], short: bool, out: &m
 }
 
 /// Writes the report of a run from its parts, of the log the oldest entry first.
-fn write_report<K: Sink>(output: &[u8], end: End, entries: &[Entry], short: bool, out: &mut K) -> Result<(), Failed>
+pub(crate) fn write_report<K: Sink>(output: &[u8], end: End, entries: &[Entry], short: bool, out: &mut K) -> Result<(), Failed>
     ensures all { OnOk result (Grew (K.written out.old) (K.written out.new) (report_text output.now end (reverse entries.now) short)) }
     ensures prefix { OnErr result (GrewByPrefix (K.written out.old) (K.written out.new) (report_text output.now end (reverse entries.now) short)) }
     ensures fault { OnErr result (Rose (K.faults out.old) (K.faults out.new)) }

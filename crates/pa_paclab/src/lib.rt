@@ -3,6 +3,8 @@
 
 mod exit;
 mod lines;
+#[cfg(test)]
+mod tests;
 mod top;
 mod words;
 
