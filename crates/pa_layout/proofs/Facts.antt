@@ -1,10 +1,13 @@
 -- What is known once a check has passed.
-use Rattle.std.proofs.Common.{◌≡◌, ℕ, ◌≤◌, Bool, true, false, leb, List, [], ◌∷◌, Option, Some, None, refl}
+use Rattle.std.proofs.Common.{Result, Ok, Err, subst, sym, ◌≡◌, ℕ, ◌≤◌, Bool, true, false, leb, List, [], ◌∷◌, Option, Some, None, refl}
 use Rattle.std.proofs.lemmas.Bool.{leb-true}
+use Rattle.std.specs.Result.{IsErrAnd}
 use Rattle.pa_num.specs.declared.fault.ImageRule.{ImageRule}
+use Rattle.pa_num.specs.declared.fault.Fault.{Fault}
+use Rattle.pa_num.specs.declared.fault.Fault.TheVariants.{Refused, Memory}
 use Rattle.pa_layout.specs.declared.checks.Flaw.{Flaw}
 use Rattle.pa_layout.specs.declared.field.FileField.{FileField}
-use Rattle.pa_layout.specs.Flaws.{at_place, unless, Check, Fields, Holds, flaw_of, first, ◌then◌}
+use Rattle.pa_layout.specs.Flaws.{at_place, unless, Check, Fields, Holds, flaw_of, first, AnswersOrMemory, ◌then◌}
 use Rattle.pa_layout.proofs.Laws.{AllAllowed, all_allowed}
 
 pub then_none : (a b : Option Flaw) → a then b ≡ None → (a ≡ None) × (b ≡ None)
@@ -43,3 +46,10 @@ each_none [] bytes e = tt
 each_none (check ∷ checks) bytes e =
     let a = then_none (flaw_of check bytes) (first checks bytes) e in
     (a.0, each_none checks bytes a.1)
+
+-- ---- answers of calls that allocate
+
+-- a flaw that is handed on by `?`
+pub refused_answers : {A : Type 0} (result : Result A (Fault ImageRule)) (told : Flaw) (flaw : Option Flaw) → IsErrAnd result (λ fault. fault ≡ Refused told.rule told.place) → flaw ≡ Some told → AnswersOrMemory result flaw
+refused_answers {A} (Ok value) told flaw h e = absurd h
+refused_answers {A} (Err fault) told flaw h e = subst (λ (f : Fault ImageRule). AnswersOrMemory {A = A} (Err f) flaw) (sym h) e
