@@ -1,6 +1,7 @@
-ghost use Rattle.std.specs.Prelude.{◌≡◌, ◌||◌};
+ghost use Rattle.std.specs.Prelude.{◌≡◌, ◌<◌, ◌||◌, IsTrue};
 ghost use Rattle.std.specs.Bool.{OnTrue};
 ghost use Rattle.std.specs.List.{list_any};
+ghost use Rattle.indexmap.specs.IndexSet.{spare};
 ghost use Rattle.pa_pac.specs.Key.{key_number};
 ghost use Rattle.pa_log.specs.Index.{same, signs, any_signs};
 
@@ -31,7 +32,12 @@ impl Signing {
         ensures { result ≡ signs self event }
     {
         match event {
-            Event::Sign { key, modifier, raw, .. } => self == Signing::new(key, modifier, raw),
+            Event::Sign {
+                key,
+                modifier,
+                raw,
+                ..
+            } => self == Signing::new(key, modifier, raw),
             Event::Take { .. } | Event::Land { .. } => false,
         }
     }
@@ -44,9 +50,10 @@ impl Signing {
     }
 }
 
-/// Puts the signing into the index, and answers whether it is there now.
+/// Puts the signing into the index, and answers whether it is there now. That can fail only where there was no room.
 pub fn note(index: &mut IndexSet<Signing>, signing: Signing) -> bool
-    ensures { OnTrue result ((other : Signing) → list_any (same other) index.new.keys ≡ (same other signing || list_any (same other) index.old.keys)) }
+    ensures noted { OnTrue result ((other : Signing) → list_any (same other) index.new.keys ≡ (same other signing || list_any (same other) index.old.keys)) }
+    ensures room { 0 < spare index.old → IsTrue result }
 {
     index.insert(signing).is_ok()
 }
