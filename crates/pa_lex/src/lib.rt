@@ -12,3 +12,6 @@ mod token;
 
 pub use lexer::lex;
 pub use token::{Include, Keyword, Kind, LexRule, Punct, Token, Tokens};
+
+#[cfg(test)]
+mod tests;
