@@ -1,4 +1,4 @@
-ghost use Rattle.std.specs.Prelude.{◌≡◌, ◌≢◌, ◌≤◌, ◌↔◌, IsTrue, [], length, IfSome, not};
+ghost use Rattle.std.specs.Prelude.{◌≡◌, ◌≢◌, ◌≤◌, ◌<◌, ◌+◌, ◌^◌, ◌↔◌, IsTrue, [], length, IfSome, not};
 ghost use Rattle.std.specs.List.{prefix_len};
 ghost use Rattle.pa_lex.specs.Bytes.{is_line_feed};
 ghost use Rattle.pa_lex.specs.Lexes as lexes;
@@ -174,5 +174,36 @@ impl<'a> Reader<'a> {
         } else {
             form::form_at(self.first, self.ahead)
         }
+    }
+
+    fn place(&self) -> u32
+        ensures value { result ≡ self.now.at }
+        ensures in_file { self.now.at + length self.now.ahead < 2 ^ 32 }
+    {
+        self.at
+    }
+
+    /// The token here, which is then behind the reader.
+    pub fn token(&mut self, alloc: Global) -> Result<Token, Fault<LexRule>>
+        requires more { self.old.ahead ≢ [] }
+        requires stops { reading.separator_at self.old.ahead ≡ None }
+        ensures { reading.TakesToken self.old result self.new }
+    {
+        let from = self.place();
+        let Some(form) = self.form() else {
+            return Err(Fault::Refused {
+                rule: self.rule(),
+                place: u64::from(from),
+            });
+        };
+        let Some(kind) = form.kind(alloc)? else {
+            return Err(Fault::Refused {
+                rule: form.rule(),
+                place: u64::from(from),
+            });
+        };
+        self.advance(form.len());
+        let to = self.place();
+        Ok(Token { kind, from, to })
     }
 }
