@@ -1,7 +1,7 @@
 -- The machine at the beginning, and what its run shows.
-use Rattle.std.proofs.Common.{◌≡◌, ℕ, zero, suc, ◌+◌, ◌-◌, ◌*◌, ◌/◌, ◌%◌, ◌^◌, ◌<◌, ◌≤◌, min, max, Bool, true, false, List, [], ◌∷◌, ◌++◌, length, map, take, drop, refl, sym, ap, subst, ◌∙◌, arith, Some, None, length-append}
-use Rattle.std.specs.Prelude.{pos, ◌&&◌, ◌||◌}
-use Rattle.std.specs.List.{flat_map, All, AllByRecursion}
+use Rattle.std.proofs.Common.{◌≡◌, ℕ, ◌+◌, ◌-◌, ◌*◌, ◌%◌, ◌^◌, ◌<◌, ◌≤◌, min, max, true, false, List, [], ◌∷◌, ◌++◌, length, map, take, refl, sym, ap, subst, ◌∙◌, arith, Some, length-append}
+use Rattle.std.specs.Prelude.{pos}
+use Rattle.std.specs.List.{flat_map, AllByRecursion}
 use Rattle.std.specs.Int.{w32, to_le_bytes, cast_signed}
 use Rattle.std.proofs.lemmas.Int.{to_z_pos}
 use Rattle.std.proofs.Math.Seq.{take-length}
@@ -9,20 +9,19 @@ use Rattle.std.proofs.lemmas.Bool.{le-leb, and_from, or_left, or_right}
 use Rattle.std.proofs.lemmas.List.{length-map, length-replicate}
 use Rattle.std.proofs.lemmas.List.Elements.{recursion_from_All}
 use Rattle.pa_pac.specs.Signing.{Code}
-use Rattle.pa_a64.specs.declared.instr.Instr.{Instr}
 use Rattle.pa_a64.specs.Decoding.{InRange, encoded}
 use Rattle.pa_mem.specs.Memory.{Region, Right, has, Read, Write, Run, allowed, bytes_at, apart_from_all, all_apart}
 use Rattle.pa_mem.proofs.Apart.{IsAt, bytes_at-region}
 use Rattle.pa_object.specs.declared.end.End.TheVariants.{Exit}
 use Rattle.pa_object.specs.Machine.{Machine}
-use Rattle.pa_object.specs.Run.{Place, Watched, watched, run, advance_by}
-use Rattle.pa_object.specs.Shape.{shape, Enter, all_known}
+use Rattle.pa_object.specs.Run.{Watched, watched, advance_by}
+use Rattle.pa_object.specs.Shape.{Enter, all_known}
 use Rattle.pa_object.proofs.Placed.{HasCode, HasCode-bytes}
 use Rattle.pa_object.proofs.Steps.{watching}
 use Rattle.pa_object.proofs.StepsRun.{watched-then, watched-machine, watched-ended}
 use Rattle.pa_straight.specs.declared.source.Straight.{Straight}
 use Rattle.pa_straight.specs.Source.{IsSource}
-use Rattle.pa_straight.specs.Block.{start, prologue, call, calls, epilogue, putchar, instructions, words_of, base, main_place, putchar_place, blank, memory_of, begun}
+use Rattle.pa_straight.specs.Block.{start, prologue, call, calls, epilogue, putchar, instructions, words_of, base, blank, memory_of, begun}
 use Rattle.pa_straight.specs.Shows.{steps, unrun, Shows, Runs}
 use Rattle.pa_straight.proofs.Whole.{Begins, Finished, finish, length-calls}
 
@@ -46,11 +45,10 @@ pub prologue-InRange : AllByRecursion InRange prologue
 prologue-InRange = (tt, ((omega arith, omega arith, omega arith), ((omega arith, omega arith, omega arith, omega arith, refl), tt)))
 
 pub epilogue-InRange : (n : ℕ) → n < 2 ^ 32 → AllByRecursion InRange (epilogue n)
-epilogue-InRange n h =
-    (
-        (omega arith, omega arith, omega arith),
-        ((omega arith, omega arith, omega arith), ((omega arith, omega arith, omega arith, omega arith, refl), ((omega arith, omega arith, omega arith), (tt, tt))))
-    )
+epilogue-InRange n h = (
+  (omega arith, omega arith, omega arith),
+  ((omega arith, omega arith, omega arith), ((omega arith, omega arith, omega arith, omega arith, refl), ((omega arith, omega arith, omega arith), (tt, tt)))),
+)
 
 pub putchar-InRange : AllByRecursion InRange putchar
 putchar-InRange = (tt, (omega arith, (tt, tt)))
@@ -69,7 +67,7 @@ instructions-InRange s source =
     let status = source.status in
     all-append InRange (start ++ prologue) (calls s.prints ++ (epilogue s.returns ++ putchar)) (all-append InRange start prologue start-InRange prologue-InRange)
     (all-append InRange (calls s.prints) (epilogue s.returns ++ putchar) (calls-InRange s.prints (prints-small s source) (omega arith))
-        (all-append InRange (epilogue s.returns) putchar (epilogue-InRange s.returns (omega arith)) putchar-InRange))
+    (all-append InRange (epilogue s.returns) putchar (epilogue-InRange s.returns (omega arith)) putchar-InRange))
 
 -- ---- the memory
 
@@ -172,15 +170,14 @@ stays code s m n done enough =
     let rest : steps s + (n - steps s) ≡ n = omega arith in
     subst (λ k. watched code [] k (unrun m) ≡ watching done.later done.longer) rest
     (watched-then code [] (steps s) (n - steps s) (unrun m) (watching done.later done.longer) (watching done.later done.longer) done.runs
-        (watched-ended code (n - steps s) done.later done.longer _ done.ended))
+    (watched-ended code (n - steps s) done.later done.longer _ done.ended))
 
 pub runs : (s : Straight) → IsSource s → Runs (words_of s) s
 runs s source code n enough =
     let done = finish code (begun (words_of s)) s (begins s source) (prints-small s source) (let small = source.status in omega arith) in
-    let whole : n - 0 ≡ n = omega arith in
-    (
-        shows_of code s source.status (begun (words_of s)) done refl _ (stays code s (begun (words_of s)) n done enough),
-        ap (λ k. advance_by code [] k (begun (words_of s))) whole ∙ sym (watched-machine code [] n (unrun (begun (words_of s))))
+    let whole : n - 0 ≡ n = omega arith in (
+      shows_of code s source.status (begun (words_of s)) done refl _ (stays code s (begun (words_of s)) n done enough),
+      ap (λ k. advance_by code [] k (begun (words_of s))) whole ∙ sym (watched-machine code [] n (unrun (begun (words_of s)))),
     )
 
 -- ---- what `Space::add` asks
