@@ -1,8 +1,8 @@
 //! The machine, step by step.
 
-ghost use Rattle.std.specs.Prelude.{◌≡◌, ◌+◌, ◌-◌, ◌*◌, ◌^◌, ◌<◌, ◌≤◌, length, IfOk, OnOk, OnErr, None};
+ghost use Rattle.std.specs.Prelude.{◌≡◌, ◌+◌, ◌-◌, ◌*◌, ◌^◌, ◌<◌, ◌≤◌, length, IfOk, OnOk, OnErr, None, [], ℕ};
 ghost use Rattle.pa_object.specs.Machine.{begun};
-ghost use Rattle.pa_object.specs.Run.{step};
+ghost use Rattle.pa_object.specs.Run.{step, run, end_of};
 ghost use Rattle.pa_machine.specs.Running.{went};
 
 use crate::loaded::Loaded;
@@ -10,9 +10,12 @@ use crate::processor::Processor;
 use crate::went::Went;
 use pa_log::Log;
 use pa_num::{Bytes, Memory};
+use pa_object::End;
 use pa_pac::Pac;
 use std::alloc::Global;
 use std::marker::Model;
+
+const STEPS_AT_A_TIME: u32 = 4096;
 
 /// A machine under a function for the authentication codes. It takes memory only where it is made and in `reserve`, which
 /// makes room for what steps print and log.
@@ -79,6 +82,50 @@ impl<'a, P: Pac> Machine<'a, P> {
             None => Went::Goes,
             Some(end) => Went::Ended(end),
         }
+    }
+
+    fn ended(&self) -> Option<End>
+        ensures { result ≡ self.now.machine.ended }
+    {
+        self.processor.ended()
+    }
+
+    fn count(&self) -> u32
+        ensures { result ≡ self.now.machine.count }
+    {
+        self.processor.count()
+    }
+
+    // Room for a step, made for several of those that are left at a time.
+    fn make_room(&mut self, left: u32) -> Result<(), Memory>
+        requires { 0 < left }
+        ensures ok { OnOk result (0 < self.new.spare) }
+        ensures rest { self.new ≡ record self.old { spare = self.new.spare } }
+    {
+        if self.spare == 0 {
+            self.reserve(left.min(STEPS_AT_A_TIME))?;
+        }
+        Ok(())
+    }
+
+    /// Runs until `bound` instructions ran in all, unless the program or a trap ends the run before. Room is made for 4,096
+    /// steps at a time; after want of memory the machine stands where a run for fewer instructions does.
+    pub fn run(&mut self, bound: u32) -> Result<End, Memory>
+        ensures machine { OnOk result (self.new.machine ≡ run (P.code self.old.pac) [] bound self.old.machine) }
+        ensures end { IfOk result (λ end. end ≡ end_of self.new.machine) }
+        ensures err { OnErr result ((n : ℕ) × (n < bound) × (self.new.machine ≡ run (P.code self.old.pac) [] n self.old.machine)) }
+        ensures pac { self.new.pac ≡ self.old.pac }
+    {
+        if let Some(end) = self.ended() {
+            return Ok(end);
+        }
+        for count in self.count()..bound {
+            self.make_room(bound - count)?;
+            if let Went::Ended(end) = self.step() {
+                return Ok(end);
+            }
+        }
+        Ok(End::Bound)
     }
 
     /// The bytes that the program has printed.
