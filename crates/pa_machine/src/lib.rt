@@ -8,6 +8,13 @@ mod compute;
 mod execute;
 mod flags;
 mod input;
+mod loaded;
 mod machine;
 mod memory_access;
 mod processor;
+mod went;
+
+pub use loaded::Loaded;
+pub use machine::Machine;
+pub use pa_object::{End, Trap};
+pub use went::Went;

@@ -1,19 +1,23 @@
 //! The state of the machine, and the reads and writes that the instructions are made of.
 
-ghost use Rattle.std.specs.Prelude.{◌≡◌, ◌+◌, ◌^◌, ◌<◌, [], ◌∷◌, ◌++◌, length, true, false, MatchResult, Some, None};
+ghost use Rattle.std.specs.Prelude.{◌≡◌, ◌+◌, ◌*◌, ◌^◌, ◌<◌, ◌≤◌, [], ◌∷◌, ◌++◌, length, true, false, MatchResult, OnOk, Some, None};
 ghost use Rattle.pa_mem.specs.Access.{byte_count};
 ghost use Rattle.pa_mem.specs.Memory.{Read, Write, allowed, load, store, fetch};
 ghost use Rattle.pa_object.specs.declared.end.Trap.TheVariants.{AuthFail, DataAbort, FetchAbort};
 ghost use Rattle.pa_object.specs.Machine as spec;
+ghost use Rattle.pa_object.specs.Machine.{begun};
 ghost use Rattle.pa_object.specs.declared.end.End.TheVariants as end;
 ghost use Rattle.pa_object.specs.Effects.{links, exits, first_or_end, behind_first};
 ghost use Rattle.pa_object.specs.Run.{ends};
 
 use crate::input::Input;
+use crate::loaded::Loaded;
 use pa_log::Log;
 use pa_mem::{Rights, Size, Space};
+use pa_num::{Bytes, Memory};
 use pa_object::{End, Flags, Trap};
 use pa_pac::{Key, Way, When};
+use std::alloc::Global;
 use std::marker::Model;
 
 /// The registers, memory, input, output and log of the machine.
@@ -59,6 +63,89 @@ impl Model for Processor {
 }
 
 impl Processor {
+    pub fn new(alloc: Global, loaded: Loaded, input: Bytes) -> Processor
+        ensures machine { result.machine ≡ begun loaded.space loaded.log.entries loaded.pc loaded.sp input }
+        ensures log { length result.machine.log ≤ result.log_limit }
+    {
+        let Loaded { space, log, pc, sp } = loaded;
+        Processor {
+            registers: [0; 31],
+            sp,
+            flags: Flags {
+                negative: false,
+                zero: false,
+                carry: false,
+                overflow: false,
+            },
+            space,
+            pc,
+            count: 0,
+            input: Input::new(input),
+            output: Vec::new(alloc),
+            output_limit: 0,
+            log,
+            ended: None,
+        }
+    }
+
+    /// Makes room for what so many steps print and log.
+    pub fn reserve(&mut self, steps: u32) -> Result<(), Memory>
+        ensures machine { self.new.machine ≡ self.old.machine }
+        ensures log { OnOk result (length self.new.machine.log + 2 * steps ≤ self.new.log_limit) }
+        ensures output { OnOk result (length self.new.machine.output + steps ≤ self.new.output_limit) }
+        ensures log_limit { self.old.log_limit ≤ self.new.log_limit }
+        ensures output_limit { self.old.output_limit ≤ self.new.output_limit }
+    {
+        self.log.reserve(2 * u64::from(steps))?;
+        self.output.reserve(steps as usize)?;
+        self.output_limit = self.output.capacity();
+        Ok(())
+    }
+
+    pub fn count(&self) -> u32
+        ensures { result ≡ self.now.machine.count }
+    {
+        self.count
+    }
+
+    pub fn ended(&self) -> Option<End>
+        ensures { result ≡ self.now.machine.ended }
+    {
+        self.ended
+    }
+
+    pub fn output(&self) -> &[u8]
+        ensures { result.now ≡ self.now.machine.output }
+    {
+        self.output.as_slice()
+    }
+
+    pub fn log(&self) -> &Log
+        ensures { result.now.entries ≡ self.now.machine.log }
+    {
+        &self.log
+    }
+
+    pub fn into_parts(self) -> (Bytes, Log)
+        ensures output { result.0 ≡ self.machine.output }
+        ensures log { result.1.entries ≡ self.machine.log }
+    {
+        let Processor {
+            registers: _,
+            sp: _,
+            flags: _,
+            space: _,
+            pc: _,
+            count: _,
+            input: _,
+            output,
+            output_limit: _,
+            log,
+            ended: _,
+        } = self;
+        (Bytes::from_vec(output), log)
+    }
+
     /// A register, where 31 is the zero register.
     pub fn register(&self, index: u8) -> u64
         ensures { result ≡ spec.register index self.now.machine }

@@ -237,6 +237,9 @@ Stepped_leaves : (m n : Machine) → Stepped m n → Leaves 1 m n
 Stepped_leaves m n (traps trap e) = subst (Leaves 1 m) (sym e) (keeps m (ends (end.Trap trap) m) refl refl refl)
 Stepped_leaves m n (goes l c) = l
 
+pub step_leaves : (code : Code) (m : Machine) → Leaves 1 m (step code m)
+step_leaves code m = Stepped_leaves m (step code m) (step_stepped code m)
+
 -- a step after the second writer
 written_leaves : (m w n : Machine) → Wrote m w → Leaves 1 w n → Leaves 1 m n
 written_leaves m w n wrote l = record {
@@ -271,7 +274,7 @@ module _ (code : Code) (script : Script) where
   advance_leaves m = at m.ended
     where
       at : (o : Option End) → Leaves 1 m (unless_ended o m (step code (applied_all script m.count m)))
-      at None = let w = applied_all script m.count m in written_leaves m w (step code w) (applied_all_wrote script m.count m) (Stepped_leaves w (step code w) (step_stepped code w))
+      at None = let w = applied_all script m.count m in written_leaves m w (step code w) (applied_all_wrote script m.count m) (step_leaves code w)
       at (Some e) = Leaves-same 1 m
 
   pub advance_by_leaves : (n : ℕ) (m : Machine) → Leaves n m (advance_by code script n m)
