@@ -1,6 +1,6 @@
 -- The table of instructions: a row for each, with its bits from bit 0 up as the Arm Architecture Reference Manual's
 -- chapter on the A64 instruction set encoding shows them. All work on 64 bits, so sf is 1 where a row has it.
-use Rattle.std.specs.Prelude.{ℕ, List, [], ◌∷◌}
+use Rattle.std.specs.Prelude.{ℕ, List, [], ◌∷◌, ◌++◌}
 use Rattle.pa_a64.specs.declared.instr.AuthenticateOp.{AuthenticateOp}
 use Rattle.pa_a64.specs.declared.instr.BitfieldOp.{BitfieldOp}
 use Rattle.pa_a64.specs.declared.instr.BranchAuthenticatedOp.{BranchAuthenticatedOp}
@@ -211,36 +211,55 @@ parts (Plain PlainOp.Xpaci) = one_source (Fixed 5 0b11111) 0b010000
 parts (Exception ExceptionOp.Svc) = exception 0b000 0b01
 parts (Exception ExceptionOp.Brk) = exception 0b001 0b00
 
-abbrev pub rows : List Row
-rows =
-    MoveWide MoveWideOp.Movz ∷ MoveWide MoveWideOp.Movn ∷ MoveWide MoveWideOp.Movk
+-- data processing with an immediate
+abbrev pub immediate_rows : List Row
+immediate_rows =
+    Adrp
     ∷ SumImmediate SumImmediateOp.Add ∷ SumImmediate SumImmediateOp.Sub
     ∷ SubsImmediate
+    ∷ MoveWide MoveWideOp.Movz ∷ MoveWide MoveWideOp.Movn ∷ MoveWide MoveWideOp.Movk
+    ∷ Bitfield BitfieldOp.Sbfm ∷ Bitfield BitfieldOp.Ubfm
+    ∷ []
+
+-- data processing with registers
+abbrev pub register_rows : List Row
+register_rows =
+    Logical LogicalOp.And ∷ Logical LogicalOp.Orr ∷ Logical LogicalOp.Eor ∷ Logical LogicalOp.Orn
     ∷ Sum SumOp.Add ∷ Sum SumOp.Sub ∷ Sum SumOp.Subs
-    ∷ Logical LogicalOp.And ∷ Logical LogicalOp.Orr ∷ Logical LogicalOp.Eor ∷ Logical LogicalOp.Orn
     ∷ MultiplyAdd MultiplyAddOp.Madd ∷ MultiplyAdd MultiplyAddOp.Msub
     ∷ Divide DivideOp.Udiv ∷ Divide DivideOp.Sdiv
     ∷ Shift ShiftOp.Lslv ∷ Shift ShiftOp.Lsrv ∷ Shift ShiftOp.Asrv
-    ∷ Bitfield BitfieldOp.Sbfm ∷ Bitfield BitfieldOp.Ubfm
     ∷ Csinc
-    ∷ Adrp
-    ∷ Nop
-    ∷ LoadStore LoadStoreOp.Ldr ∷ LoadStore LoadStoreOp.Str
+    ∷ Pacga
+    ∷ Sign SignOp.Pacia ∷ Sign SignOp.Pacib ∷ Sign SignOp.Pacda ∷ Sign SignOp.Pacdb
+    ∷ Authenticate AuthenticateOp.Autia ∷ Authenticate AuthenticateOp.Autib ∷ Authenticate AuthenticateOp.Autda ∷ Authenticate AuthenticateOp.Autdb
+    ∷ Plain PlainOp.Paciza ∷ Plain PlainOp.Autiza ∷ Plain PlainOp.Xpaci
+    ∷ []
+
+-- loads and stores
+abbrev pub memory_rows : List Row
+memory_rows =
+    LoadStore LoadStoreOp.Ldr ∷ LoadStore LoadStoreOp.Str
     ∷ LoadStoreWord LoadStoreWordOp.Ldrw ∷ LoadStoreWord LoadStoreWordOp.Strw ∷ LoadStoreWord LoadStoreWordOp.Ldrsw
     ∷ LoadStoreHalf LoadStoreHalfOp.Ldrh ∷ LoadStoreHalf LoadStoreHalfOp.Strh ∷ LoadStoreHalf LoadStoreHalfOp.Ldrsh
     ∷ LoadStoreByte LoadStoreByteOp.Ldrb ∷ LoadStoreByte LoadStoreByteOp.Strb ∷ LoadStoreByte LoadStoreByteOp.Ldrsb
     ∷ LoadStoreUnscaled LoadStoreUnscaledOp.Ldur ∷ LoadStoreUnscaled LoadStoreUnscaledOp.Stur
     ∷ LoadStorePair LoadStorePairOp.Ldp ∷ LoadStorePair LoadStorePairOp.Stp
-    ∷ Branch BranchOp.B ∷ Branch BranchOp.Bl
+    ∷ []
+
+-- branches, exceptions and hints
+abbrev pub branch_rows : List Row
+branch_rows =
+    Branch BranchOp.B ∷ Branch BranchOp.Bl
     ∷ BranchConditional
     ∷ CompareBranch CompareBranchOp.Cbz ∷ CompareBranch CompareBranchOp.Cbnz
-    ∷ BranchRegister BranchRegisterOp.Br ∷ BranchRegister BranchRegisterOp.Blr ∷ BranchRegister BranchRegisterOp.Ret
-    ∷ BranchAuthenticated BranchAuthenticatedOp.Braa ∷ BranchAuthenticated BranchAuthenticatedOp.Blraa ∷ BranchAuthenticated BranchAuthenticatedOp.Blrab
-    ∷ Blraaz
-    ∷ Stack StackOp.Retab ∷ Stack StackOp.Pacibsp ∷ Stack StackOp.Autibsp
-    ∷ Sign SignOp.Pacia ∷ Sign SignOp.Pacib ∷ Sign SignOp.Pacda ∷ Sign SignOp.Pacdb
-    ∷ Authenticate AuthenticateOp.Autia ∷ Authenticate AuthenticateOp.Autib ∷ Authenticate AuthenticateOp.Autda ∷ Authenticate AuthenticateOp.Autdb
-    ∷ Plain PlainOp.Paciza ∷ Plain PlainOp.Autiza ∷ Plain PlainOp.Xpaci
-    ∷ Pacga
     ∷ Exception ExceptionOp.Svc ∷ Exception ExceptionOp.Brk
+    ∷ Nop
+    ∷ Stack StackOp.Retab ∷ Stack StackOp.Pacibsp ∷ Stack StackOp.Autibsp
+    ∷ BranchRegister BranchRegisterOp.Br ∷ BranchRegister BranchRegisterOp.Blr ∷ BranchRegister BranchRegisterOp.Ret
+    ∷ Blraaz
+    ∷ BranchAuthenticated BranchAuthenticatedOp.Braa ∷ BranchAuthenticated BranchAuthenticatedOp.Blraa ∷ BranchAuthenticated BranchAuthenticatedOp.Blrab
     ∷ []
+
+abbrev pub rows : List Row
+rows = immediate_rows ++ (register_rows ++ (memory_rows ++ branch_rows))

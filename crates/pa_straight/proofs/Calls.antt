@@ -16,34 +16,19 @@ use Rattle.pa_object.specs.Run.{Place, Watched, watched}
 use Rattle.pa_object.specs.Shape.{Shown, Enter, shape, all_known}
 use Rattle.pa_object.proofs.Placed.{Stands, HasCode, HasCode-append}
 use Rattle.pa_object.proofs.Steps.{register-set, watching, here, reach, no_step, movz_step, movk_step, bl_step, pacibsp_step, print_step, retab_step, add64_small, scaled64_small}
-use Rattle.pa_object.proofs.StepsRun.{watched-then, is_known-more, is_known-sign, AreBefore, AreBefore-more, place_of-here, shape-called, all_known-enter, all_known-return}
+use Rattle.pa_object.proofs.StepsLeads.{IsReady, Leads, leads-then, no_leads}
+use Rattle.pa_object.proofs.StepsRun.{is_known-more, is_known-sign, AreBefore, AreBefore-more, place_of-here, shape-called, all_known-enter, all_known-return}
 use Rattle.pa_straight.specs.Block.{call, calls, putchar}
 
 pub two_parts : (n : ℕ) → n < 2 ^ 32 → with_part (n % 65536 * 2 ^ (16 * 0)) 1 (n / 65536) ≡ n
 unfolding with_part
 two_parts n h = omega arith
 
--- what holds of the machine before each of the parts of a run
-pub record IsReady (m : Machine) (trail : List Place) : Type 0 where
-  pub going : m.ended ≡ None
-  pub wide : length m.registers ≡ 31
-  pub counted : length trail ≡ m.count
-  pub before : AreBefore (length trail) m.log
-  pub known : all_known m.log ≡ true
-
--- so many instructions lead from one machine to another, and show this
-pub record Leads (code : Code) (n : ℕ) (m : Machine) (trail : List Place) (shown : List Shown) (later : Machine) (longer : List Place) : Type 0 where
-  pub runs : watched code [] n (watching m trail) ≡ watching later longer
-  pub ready : IsReady later longer
-  pub counted : later.count ≡ m.count + n
-  pub shows : shape [] longer later.log ≡ shown ++ shape [] trail m.log
-  pub kept : (key : Key) (modifier raw : ℕ) → is_known m.log key modifier raw ≡ true → is_known later.log key modifier raw ≡ true
-
 -- a call of `_putchar` and its return
 pub record Printed (code : Code) (n : ℕ) (m : Machine) (trail : List Place) (shown : List Shown) (bytes : List ℕ) (place : ℕ) : Type 0 where
   pub later : Machine
   pub longer : List Place
-  pub leads : Leads code n m trail shown later longer
+  pub leads : Leads code [] n m trail shown later longer
   pub pc : later.pc ≡ place
   pub sp : later.sp ≡ m.sp
   pub memory : later.memory ≡ m.memory
@@ -100,28 +85,12 @@ call_runs code m trail ready n behind place fits low high at (c0, (c1, (c2, c3))
 
 -- ---- one part behind another
 
-pub leads-then : (code : Code) (n k : ℕ) (m : Machine) (trail : List Place) (shown more : List Shown) (middle : Machine) (between : List Place) (later : Machine) (longer : List Place)
-    → Leads code n m trail shown middle between → Leads code k middle between more later longer → Leads code (n + k) m trail (more ++ shown) later longer
-leads-then code n k m trail shown more middle between later longer one two =
-    let first = one.counted in
-    let second = two.counted in
-    record {
-      runs = watched-then code [] n k _ _ _ one.runs two.runs;
-      ready = two.ready;
-      counted = omega arith;
-      shows = two.shows ∙ ap (λ x. more ++ x) one.shows ∙ sym (append_assoc more shown (shape [] trail m.log));
-      kept = λ key modifier raw h. two.kept key modifier raw (one.kept key modifier raw h);
-    }
-
-pub no_leads : (code : Code) (m : Machine) (trail : List Place) → IsReady m trail → Leads code 0 m trail [] m trail
-no_leads code m trail ready = record { runs = no_step code _; ready = ready; counted = omega arith; shows = refl; kept = λ key modifier raw h. h }
-
 pub printed-then : (code : Code) (n k : ℕ) (m : Machine) (trail : List Place) (shown more : List Shown) (bytes others : List ℕ) (place last : ℕ) (first : Printed code n m trail shown bytes place)
     → Printed code k first.later first.longer more others last → Printed code (n + k) m trail (more ++ shown) (bytes ++ others) last
 printed-then code n k m trail shown more bytes others place last first rest = record {
     later = rest.later;
     longer = rest.longer;
-    leads = leads-then code n k m trail shown more first.later first.longer rest.later rest.longer first.leads rest.leads;
+    leads = leads-then code [] n k m trail shown more first.later first.longer rest.later rest.longer first.leads rest.leads;
     pc = rest.pc;
     sp = rest.sp ∙ first.sp;
     memory = rest.memory ∙ first.memory;
@@ -139,7 +108,7 @@ no_calls : (code : Code) (m : Machine) (trail : List Place) → IsReady m trail 
 no_calls code m trail ready = record {
     later = m;
     longer = trail;
-    leads = no_leads code m trail ready;
+    leads = no_leads code [] m trail ready;
     pc = omega arith;
     sp = refl;
     memory = refl;

@@ -1,0 +1,11 @@
+//! Chained fixups of pointer format 1: slots, chains and the fixups' tables, read and written.
+#![tactic(auto)]
+
+mod bounds;
+mod chain;
+mod kind;
+mod slot;
+
+pub use bounds::Bounds;
+pub use kind::{Fix, FixKind, Fixes, Sig};
+pub use slot::{read_slot, write_slot};

@@ -1,0 +1,4 @@
+pub mod CheckLaws
+pub mod Facts
+pub mod Laws
+pub mod Pieces
