@@ -4,12 +4,11 @@ use Rattle.std.specs.List.{flat_map, AllByRecursion}
 use Rattle.std.specs.Int.{w32, to_le_bytes}
 use Rattle.pa_a64.specs.declared.instr.Instr.{Instr}
 use Rattle.pa_a64.specs.Decoding.{InRange, encoded, decoded}
-use Rattle.pa_a64.proofs.RoundTrip.{decoded-encoded}
+use Rattle.pa_a64.proofs.RoundTrip.{decoded-encoded, encoded-lt}
 use Rattle.pa_mem.specs.Memory.{Region, Run, allowed, fetch, bytes_at}
 use Rattle.pa_mem.proofs.Bytes.{allowed-part}
 use Rattle.pa_mem.proofs.Found.{allowed-run}
 use Rattle.pa_mem.proofs.Fetches.{fetch-word}
-use Rattle.pa_object.proofs.WordSizes.{encoded-lt}
 
 -- this instruction stands in memory at a place
 pub record Stands (memory : List Region) (at : ℕ) (i : Instr) : Type 0 where

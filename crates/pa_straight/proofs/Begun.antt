@@ -46,11 +46,10 @@ pub prologue-InRange : AllByRecursion InRange prologue
 prologue-InRange = (tt, ((omega arith, omega arith, omega arith), ((omega arith, omega arith, omega arith, omega arith, refl), tt)))
 
 pub epilogue-InRange : (n : ℕ) → n < 2 ^ 32 → AllByRecursion InRange (epilogue n)
-epilogue-InRange n h =
-    (
-        (omega arith, omega arith, omega arith),
-        ((omega arith, omega arith, omega arith), ((omega arith, omega arith, omega arith, omega arith, refl), ((omega arith, omega arith, omega arith), (tt, tt))))
-    )
+epilogue-InRange n h = (
+  (omega arith, omega arith, omega arith),
+  ((omega arith, omega arith, omega arith), ((omega arith, omega arith, omega arith, omega arith, refl), ((omega arith, omega arith, omega arith), (tt, tt)))),
+)
 
 pub putchar-InRange : AllByRecursion InRange putchar
 putchar-InRange = (tt, (omega arith, (tt, tt)))
@@ -69,7 +68,7 @@ instructions-InRange s source =
     let status = source.status in
     all-append InRange (start ++ prologue) (calls s.prints ++ (epilogue s.returns ++ putchar)) (all-append InRange start prologue start-InRange prologue-InRange)
     (all-append InRange (calls s.prints) (epilogue s.returns ++ putchar) (calls-InRange s.prints (prints-small s source) (omega arith))
-        (all-append InRange (epilogue s.returns) putchar (epilogue-InRange s.returns (omega arith)) putchar-InRange))
+    (all-append InRange (epilogue s.returns) putchar (epilogue-InRange s.returns (omega arith)) putchar-InRange))
 
 -- ---- the memory
 
@@ -172,15 +171,14 @@ stays code s m n done enough =
     let rest : steps s + (n - steps s) ≡ n = omega arith in
     subst (λ k. watched code [] k (unrun m) ≡ watching done.later done.longer) rest
     (watched-then code [] (steps s) (n - steps s) (unrun m) (watching done.later done.longer) (watching done.later done.longer) done.runs
-        (watched-ended code (n - steps s) done.later done.longer _ done.ended))
+    (watched-ended code (n - steps s) done.later done.longer _ done.ended))
 
 pub runs : (s : Straight) → IsSource s → Runs (words_of s) s
 runs s source code n enough =
     let done = finish code (begun (words_of s)) s (begins s source) (prints-small s source) (let small = source.status in omega arith) in
-    let whole : n - 0 ≡ n = omega arith in
-    (
-        shows_of code s source.status (begun (words_of s)) done refl _ (stays code s (begun (words_of s)) n done enough),
-        ap (λ k. advance_by code [] k (begun (words_of s))) whole ∙ sym (watched-machine code [] n (unrun (begun (words_of s))))
+    let whole : n - 0 ≡ n = omega arith in (
+      shows_of code s source.status (begun (words_of s)) done refl _ (stays code s (begun (words_of s)) n done enough),
+      ap (λ k. advance_by code [] k (begun (words_of s))) whole ∙ sym (watched-machine code [] n (unrun (begun (words_of s)))),
     )
 
 -- ---- what `Space::add` asks

@@ -41,14 +41,14 @@ printed : (code : Code) (n : ℕ) (m : Machine) (trail : List Place) (shown : Li
     → later.pc ≡ place → later.sp ≡ m.sp → later.memory ≡ m.memory → later.output ≡ m.output ++ bytes
     → Printed code n m trail shown bytes place
 printed code n m trail shown bytes place later longer runs ready counted shows kept at sp memory output = record {
-    later = later;
-    longer = longer;
-    leads = record { runs = runs; ready = ready; counted = counted; shows = shows; kept = kept };
-    pc = at;
-    sp = sp;
-    memory = memory;
-    output = output;
-  }
+  later = later;
+  longer = longer;
+  leads = record { runs = runs; ready = ready; counted = counted; shows = shows; kept = kept };
+  pc = at;
+  sp = sp;
+  memory = memory;
+  output = output;
+}
 
 pub call_runs : (code : Code) (m : Machine) (trail : List Place) → IsReady m trail
     → (n behind : ℕ) (place : ℕ) → n < 2 ^ 32 → m.pc + 12 < 2 ^ 47 → place + 12 < 2 ^ 47 → place ≡ m.pc + 8 + 4 * (3 * behind + 6)
@@ -64,13 +64,13 @@ call_runs code m trail ready n behind place fits low high at (c0, (c1, (c2, c3))
     let opens : auth code IB m.sp (sign code IB m.sp raw) ≡ Some raw = auth-sign code IB m.sp raw (canonical-user raw (omega arith)) in
     let signed = is_known-sign IB m.sp raw (sign code IB m.sp raw) _ m.log in
     printed code 6 m trail _ _ _ _ _ (
-        reach code 5 m _ trail _ _ c0 going (movz_step code m (omega arith) 0 (n % 65536) 0 c0) refl
-        (reach code 4 _ _ _ _ _ c1 going (movk_step code _ (omega arith) 0 (n / 65536) 1 c1) refl
-        (reach code 3 _ _ _ _ _ c2 going (bl_step code _ (omega arith) _ place c2 there) refl
-        (reach code 2 _ _ _ _ _ d0 going (pacibsp_step code _ (omega arith) raw d0 (simp (register-set, length-set, wide))) refl
-        (reach code 1 _ _ _ _ _ d1 going (print_step code _ (omega arith) n d1 (simp (register-set, length-set, wide) (two_parts n fits))) refl
-        (reach code 0 _ _ _ _ _ d2 going (retab_step code _ (sign code IB m.sp raw) raw d2 (simp (register-set, length-set, wide)) opens) refl
-        (no_step code _)))))))
+    reach code 5 m _ trail _ _ c0 going (movz_step code m (omega arith) 0 (n % 65536) 0 c0) refl
+    (reach code 4 _ _ _ _ _ c1 going (movk_step code _ (omega arith) 0 (n / 65536) 1 c1) refl
+    (reach code 3 _ _ _ _ _ c2 going (bl_step code _ (omega arith) _ place c2 there) refl
+    (reach code 2 _ _ _ _ _ d0 going (pacibsp_step code _ (omega arith) raw d0 (simp (register-set, length-set, wide))) refl
+    (reach code 1 _ _ _ _ _ d1 going (print_step code _ (omega arith) n d1 (simp (register-set, length-set, wide) (two_parts n fits))) refl
+    (reach code 0 _ _ _ _ _ d2 going (retab_step code _ (sign code IB m.sp raw) raw d2 (simp (register-set, length-set, wide)) opens) refl
+    (no_step code _)))))))
     (record {
       going = going;
       wide = simp length-set wide;
@@ -88,14 +88,14 @@ call_runs code m trail ready n behind place fits low high at (c0, (c1, (c2, c3))
 pub printed-then : (code : Code) (n k : ℕ) (m : Machine) (trail : List Place) (shown more : List Shown) (bytes others : List ℕ) (place last : ℕ) (first : Printed code n m trail shown bytes place)
     → Printed code k first.later first.longer more others last → Printed code (n + k) m trail (more ++ shown) (bytes ++ others) last
 printed-then code n k m trail shown more bytes others place last first rest = record {
-    later = rest.later;
-    longer = rest.longer;
-    leads = leads-then code [] n k m trail shown more first.later first.longer rest.later rest.longer first.leads rest.leads;
-    pc = rest.pc;
-    sp = rest.sp ∙ first.sp;
-    memory = rest.memory ∙ first.memory;
-    output = rest.output ∙ ap (λ x. x ++ others) first.output ∙ append_assoc m.output bytes others;
-  }
+  later = rest.later;
+  longer = rest.longer;
+  leads = leads-then code [] n k m trail shown more first.later first.longer rest.later rest.longer first.leads rest.leads;
+  pc = rest.pc;
+  sp = rest.sp ∙ first.sp;
+  memory = rest.memory ∙ first.memory;
+  output = rest.output ∙ ap (λ x. x ++ others) first.output ∙ append_assoc m.output bytes others;
+}
 
 -- one more of many that are the same
 same-push : {X : Type 0} (x : X) (ns : List ℕ) → map (λ _. x) ns ++ x ∷ [] ≡ x ∷ map (λ _. x) ns
@@ -106,14 +106,14 @@ same-push x (n ∷ ns) = ap (λ xs. x ∷ xs) (same-push x ns)
 
 no_calls : (code : Code) (m : Machine) (trail : List Place) → IsReady m trail → Printed code 0 m trail [] [] (m.pc + 12 * 0)
 no_calls code m trail ready = record {
-    later = m;
-    longer = trail;
-    leads = no_leads code [] m trail ready;
-    pc = omega arith;
-    sp = refl;
-    memory = refl;
-    output = sym (append-nil m.output);
-  }
+  later = m;
+  longer = trail;
+  leads = no_leads code [] m trail ready;
+  pc = omega arith;
+  sp = refl;
+  memory = refl;
+  output = sym (append-nil m.output);
+}
 
 more_calls : (code : Code) (m : Machine) (trail : List Place) (n : ℕ) (ns : List ℕ) (place : ℕ) (first : Printed code 6 m trail (Enter place ∷ []) (n % 256 ∷ []) (m.pc + 12))
     → Printed code (6 * length ns) first.later first.longer (map (λ _. Enter place) ns) (map (λ n. n % 256) ns) (first.later.pc + 12 * length ns)
@@ -124,8 +124,8 @@ more_calls code m trail n ns place first rest =
     let last : first.later.pc + 12 * length ns ≡ m.pc + 12 * suc (length ns) = omega arith in
     subst (λ x. Printed code x m trail (Enter place ∷ map (λ _. Enter place) ns) (n % 256 ∷ map (λ n. n % 256) ns) (m.pc + 12 * suc (length ns))) count
     (subst (λ x. Printed code (6 + 6 * length ns) m trail x (n % 256 ∷ map (λ n. n % 256) ns) (m.pc + 12 * suc (length ns))) (same-push (Enter place) ns)
-        (subst (λ x. Printed code (6 + 6 * length ns) m trail (map (λ _. Enter place) ns ++ Enter place ∷ []) (n % 256 ∷ map (λ n. n % 256) ns) x) last
-            (printed-then code 6 (6 * length ns) m trail _ _ _ _ (m.pc + 12) (first.later.pc + 12 * length ns) first rest)))
+    (subst (λ x. Printed code (6 + 6 * length ns) m trail (map (λ _. Enter place) ns ++ Enter place ∷ []) (n % 256 ∷ map (λ n. n % 256) ns) x) last
+    (printed-then code 6 (6 * length ns) m trail _ _ _ _ (m.pc + 12) (first.later.pc + 12 * length ns) first rest)))
 
 pub calls_run : (code : Code) (m : Machine) (trail : List Place) → IsReady m trail
     → (ns : List ℕ) (place : ℕ) → AllByRecursion (λ n. n < 2 ^ 32) ns → place + 12 < 2 ^ 47 → place ≡ m.pc + 12 * length ns + 20
@@ -142,5 +142,5 @@ calls_run code m trail ready (n ∷ ns) place fits high at c d =
     go first behind rest =
         let pc = first.pc in
         more_calls code m trail n ns place first (rest first.later first.longer first.leads.ready (omega arith)
-            (subst (λ x. HasCode x first.later.pc (calls ns)) (sym first.memory) (subst (λ x. HasCode m.memory x (calls ns)) (sym first.pc) behind))
-            (subst (λ x. HasCode x place putchar) (sym first.memory) d))
+        (subst (λ x. HasCode x first.later.pc (calls ns)) (sym first.memory) (subst (λ x. HasCode m.memory x (calls ns)) (sym first.pc) behind))
+        (subst (λ x. HasCode x place putchar) (sym first.memory) d))

@@ -50,15 +50,15 @@ entered : (code : Code) (m : Machine) (trail : List Place) (later : Machine) (lo
     → later.memory ≡ store 8 (store 8 m.memory (m.sp - 16 + 8 * 0) (get_or m.registers 29 0)) (m.sp - 16 + 8 * 0 + 8) (sign code IB m.sp (m.pc + 4))
     → later.output ≡ m.output → is_known later.log IB m.sp (m.pc + 4) ≡ true → Entered code m trail
 entered code m trail later longer runs ready counted shows kept at sp memory output known = record {
-    later = later;
-    longer = longer;
-    leads = record { runs = runs; ready = ready; counted = counted; shows = shows; kept = kept };
-    pc = at;
-    sp = sp;
-    memory = memory;
-    output = output;
-    known = known;
-  }
+  later = later;
+  longer = longer;
+  leads = record { runs = runs; ready = ready; counted = counted; shows = shows; kept = kept };
+  pc = at;
+  sp = sp;
+  memory = memory;
+  output = output;
+  known = known;
+}
 
 pub enter_runs : (code : Code) (m : Machine) (trail : List Place) → IsReady m trail
     → 16 ≤ m.sp → m.sp < 2 ^ 63 → m.pc + 24 < 2 ^ 47
@@ -73,11 +73,11 @@ enter_runs code m trail ready room top low first second (c0, (c1, (c2, (c3, (c4,
     let main : m.pc + 12 ≡ m.pc + 4 + 4 + 4 = omega arith in
     let there : add64 m.pc (scaled64 4 (pos 3)) ≡ m.pc + 4 + 4 + 4 = ap (add64 m.pc) words ∙ add64_small m.pc 12 (omega arith) ∙ main in
     entered code m trail _ _ (
-        reach code 3 m _ trail _ _ c0 going (bl_step code m (omega arith) _ (m.pc + 4 + 4 + 4) c0 there) refl
-        (reach code 2 _ _ _ _ _ c3 going (pacibsp_step code _ (omega arith) raw c3 (simp (register-set, wide))) refl
-        (reach code 1 _ _ _ _ _ c4 going (sub_sp_step code _ (omega arith) 16 c4 room (omega arith)) refl
-        (reach code 0 _ _ _ _ _ c5 going (stp_sp_step code _ (omega arith) 29 30 0 (get_or m.registers 29 0) (sign code IB m.sp raw) c5 (simp register-set) (simp (register-set, length-set, wide)) (omega arith) first second) refl
-        (no_step code _)))))
+    reach code 3 m _ trail _ _ c0 going (bl_step code m (omega arith) _ (m.pc + 4 + 4 + 4) c0 there) refl
+    (reach code 2 _ _ _ _ _ c3 going (pacibsp_step code _ (omega arith) raw c3 (simp (register-set, wide))) refl
+    (reach code 1 _ _ _ _ _ c4 going (sub_sp_step code _ (omega arith) 16 c4 room (omega arith)) refl
+    (reach code 0 _ _ _ _ _ c5 going (stp_sp_step code _ (omega arith) 29 30 0 (get_or m.registers 29 0) (sign code IB m.sp raw) c5 (simp register-set) (simp (register-set, length-set, wide)) (omega arith) first second) refl
+    (no_step code _)))))
     (record {
       going = going;
       wide = simp length-set wide;
@@ -108,15 +108,15 @@ ended : (code : Code) (m : Machine) (trail : List Place) (status : ℕ) (later :
     → watched code [] 6 (watching m trail) ≡ watching later longer → later.ended ≡ Some (Exit (cast_signed w32 (status % 2 ^ 32))) → later.count ≡ m.count + 6
     → all_known later.log ≡ true → shape [] longer later.log ≡ shape [] trail m.log → later.output ≡ m.output → Ended code m trail status
 ended code m trail status later longer runs end counted known shows output = record {
-    later = later;
-    longer = longer;
-    runs = runs;
-    ended = end;
-    counted = counted;
-    known = known;
-    shows = shows;
-    output = output;
-  }
+  later = later;
+  longer = longer;
+  runs = runs;
+  ended = end;
+  counted = counted;
+  known = known;
+  shows = shows;
+  output = output;
+}
 
 pub end_runs : (code : Code) (m : Machine) (trail : List Place) → IsReady m trail
     → (status raw signed top : ℕ) → status < 2 ^ 32 → m.pc + 20 < 2 ^ 47 → raw + 4 < 2 ^ 47 → top < 2 ^ 63 → m.sp + 16 ≡ top
@@ -130,13 +130,13 @@ end_runs code m trail ready status raw signed top fits low back high frame first
     let same : auth code IB (m.sp + 16) signed ≡ Some raw = ap (λ sp. auth code IB sp signed) frame ∙ opens in
     let sign_known : is_known m.log IB (m.sp + 16) raw ≡ true = ap (λ sp. is_known m.log IB sp raw) frame ∙ known in
     ended code m trail status _ _ (
-        reach code 5 m _ trail _ _ c0 going (movz_step code m (omega arith) 0 (status % 65536) 0 c0) refl
-        (reach code 4 _ _ _ _ _ c1 going (movk_step code _ (omega arith) 0 (status / 65536) 1 c1) refl
-        (reach code 3 _ _ _ _ _ c2 going (ldp_sp_step code _ (omega arith) 29 30 0 c2 (omega arith) first second) refl
-        (reach code 2 _ _ _ _ _ c3 going (add_sp_step code _ (omega arith) 16 c3 (omega arith)) refl
-        (reach code 1 _ _ _ _ _ c4 going (retab_step code _ signed raw c4 (simp (register-set, length-set, wide) loaded) same) refl
-        (reach code 0 _ _ _ _ _ d going (exit_step code _ status d (simp (register-set, length-set, wide) (two_parts status fits))) refl
-        (no_step code _)))))))
+    reach code 5 m _ trail _ _ c0 going (movz_step code m (omega arith) 0 (status % 65536) 0 c0) refl
+    (reach code 4 _ _ _ _ _ c1 going (movk_step code _ (omega arith) 0 (status / 65536) 1 c1) refl
+    (reach code 3 _ _ _ _ _ c2 going (ldp_sp_step code _ (omega arith) 29 30 0 c2 (omega arith) first second) refl
+    (reach code 2 _ _ _ _ _ c3 going (add_sp_step code _ (omega arith) 16 c3 (omega arith)) refl
+    (reach code 1 _ _ _ _ _ c4 going (retab_step code _ signed raw c4 (simp (register-set, length-set, wide) loaded) same) refl
+    (reach code 0 _ _ _ _ _ d going (exit_step code _ status d (simp (register-set, length-set, wide) (two_parts status fits))) refl
+    (no_step code _)))))))
     refl
     (omega arith)
     (all_known-return _ _ IB _ raw raw _ m.log sign_known ready.known)
@@ -232,15 +232,15 @@ called_of : (code : Code) (m : Machine) (s : Straight) (entry : Entered code m [
     → Printed code (6 * length s.prints) entry.later entry.longer (map (λ _. Enter (m.pc + 12 * length s.prints + 44)) s.prints) (map (λ n. n % 256) s.prints) (entry.later.pc + 12 * length s.prints)
     → Called code m s
 called_of code m s entry printed = record {
-    later = printed.later;
-    longer = printed.longer;
-    leads = leads-then code [] 4 (6 * length s.prints) m [] _ _ entry.later entry.longer printed.later printed.longer entry.leads printed.leads;
-    pc = printed.pc ∙ ap (λ p. p + 12 * length s.prints) entry.pc;
-    sp = printed.sp ∙ entry.sp;
-    memory = printed.memory ∙ entry.memory;
-    output = printed.output ∙ ap (λ x. x ++ map (λ n. n % 256) s.prints) entry.output;
-    known = printed.leads.kept IB m.sp (m.pc + 4) entry.known;
-  }
+  later = printed.later;
+  longer = printed.longer;
+  leads = leads-then code [] 4 (6 * length s.prints) m [] _ _ entry.later entry.longer printed.later printed.longer entry.leads printed.leads;
+  pc = printed.pc ∙ ap (λ p. p + 12 * length s.prints) entry.pc;
+  sp = printed.sp ∙ entry.sp;
+  memory = printed.memory ∙ entry.memory;
+  output = printed.output ∙ ap (λ x. x ++ map (λ n. n % 256) s.prints) entry.output;
+  known = printed.leads.kept IB m.sp (m.pc + 4) entry.known;
+}
 
 called : (code : Code) (m : Machine) (s : Straight) → Begins m s → AllByRecursion (λ n. n < 2 ^ 32) s.prints
     → Parts code m s (saved m.memory (m.sp - 16 + 8 * 0) (get_or m.registers 29 0) (sign code IB m.sp (m.pc + 4))) → Called code m s
@@ -254,8 +254,8 @@ called code m s b fits parts =
         let low = b.low in
         let pc = entry.pc in
         called_of code m s entry (calls_run code entry.later entry.longer entry.leads.ready s.prints (m.pc + 12 * length s.prints + 44) fits (omega arith) (omega arith)
-            (subst (λ x. HasCode x entry.later.pc (calls s.prints)) (sym entry.memory) (subst (λ p. HasCode _ p (calls s.prints)) (sym entry.pc) parts.calls))
-            (subst (λ x. HasCode x (m.pc + 12 * length s.prints + 44) putchar) (sym entry.memory) parts.putchar))
+        (subst (λ x. HasCode x entry.later.pc (calls s.prints)) (sym entry.memory) (subst (λ p. HasCode _ p (calls s.prints)) (sym entry.pc) parts.calls))
+        (subst (λ x. HasCode x (m.pc + 12 * length s.prints + 44) putchar) (sym entry.memory) parts.putchar))
 
 finished_of : (code : Code) (m : Machine) (s : Straight) → Begins m s → (made : Called code m s) → Ended code made.later made.longer s.returns → Finished code m s
 finished_of code m s b made last =
@@ -310,6 +310,6 @@ finish code m s b fits small =
             let code_there = subst (λ x. HasCode x made.later.pc (epilogue s.returns)) (sym made.memory) (subst (λ p. HasCode _ p (epilogue s.returns)) (sym made.pc) parts.last) in
             let exit = subst (λ x. Stands x (m.pc + 4) (Exception Svc 3)) (sym made.memory) parts.exit in
             finished_of code m s b made (end_runs code made.later made.longer made.leads.ready s.returns (m.pc + 4) (sign code IB m.sp (m.pc + 4)) m.sp
-                small (omega arith) (omega arith) b.top (omega arith)
-                (may_read code m s b made _ (omega arith) (omega arith)) (may_read code m s b made _ (omega arith) (omega arith))
-                (saved_word code m s b made) opens made.known code_there exit)
+            small (omega arith) (omega arith) b.top (omega arith)
+            (may_read code m s b made _ (omega arith) (omega arith)) (may_read code m s b made _ (omega arith) (omega arith))
+            (saved_word code m s b made) opens made.known code_there exit)

@@ -15,8 +15,8 @@ returns-in-Ok-parse c =
     let small = c.if-value-le-GREATEST.true in
     let first : get_or c.args.digits.now 0 0 ≡ 48 → length c.args.digits.now ≤ 1 = λ z.
     elim c.else-digits-gt1.branch [
-      else-digits-gt1-via-then-digits-gt1+else-digits-eq48 w ↦ absurd (w.if-digits-eq48.false z)
-    | else-digits-gt1-via-else-digits-gt1 w ↦ omega arith
+      | else-digits-gt1-via-then-digits-gt1+else-digits-eq48 w ↦ absurd (w.if-digits-eq48.false z)
+      | else-digits-gt1-via-else-digits-gt1 w ↦ omega arith
     ] in
     (omega arith, parse-some c.args.digits.now c.in-Ok.text.now c.parse.result c.in-Ok-parse.value c.in-Ok.ensures.cases.0 c.parse.ensures.value.0 c.requires c.in-Ok-parse.is first (omega arith))
 
