@@ -1,3 +1,5 @@
 pub mod SlotLaws
+pub mod Trip
 pub mod Walk
 pub mod Words
+pub mod Written

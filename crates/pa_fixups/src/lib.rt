@@ -5,7 +5,10 @@ mod bounds;
 mod chain;
 mod kind;
 mod slot;
+mod write;
 
 pub use bounds::Bounds;
+pub use chain::read_chain;
 pub use kind::{Fix, FixKind, Fixes, Sig};
 pub use slot::{read_slot, write_slot};
+pub use write::{erase_slots, write_chain};
