@@ -1,3 +1,4 @@
+pub mod Cuts
 pub mod SlotLaws
 pub mod Trip
 pub mod Walk

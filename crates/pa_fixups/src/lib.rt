@@ -3,6 +3,7 @@
 
 mod bounds;
 mod chain;
+mod imports;
 mod kind;
 mod slot;
 mod tables;
