@@ -3,6 +3,7 @@
 
 mod bounds;
 mod chain;
+mod fixups;
 mod imports;
 mod kind;
 mod slot;
