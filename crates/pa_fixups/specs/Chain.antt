@@ -129,3 +129,30 @@ abbrev pub IsChain : Bounds → List ℕ → ℕ → List Fix → Type 0
 IsChain bounds page from [] = ⊥
 IsChain bounds page from (fix ∷ fixes) =
     (fix.at ≡ from) × Rising fix fixes × AllFit bounds (length page) (fix ∷ fixes) × Linked page (fix ∷ fixes)
+
+-- ---- writing
+
+-- what a slot needs in a page of that length
+pub record CanStand (len : ℕ) (fix : Fix) : Type 0 where
+  pub even : fix.at % 8 ≡ 0
+  pub inside : fix.at + 8 ≤ len
+  pub fields : FieldsFit fix.kind
+
+-- the slots can be written into a page of that length, one behind the other
+abbrev pub AreWritable : ℕ → List Fix → Type 0
+AreWritable len [] = Unit {0}
+AreWritable len (fix ∷ fixes) = CanStand len fix × Rising fix fixes × AreWritable len fixes
+
+-- the bytes with a part at a place in place of what stands there
+abbrev pub put_at : ℕ → List ℕ → List ℕ → List ℕ
+put_at at part bytes = take at bytes ++ (part ++ drop (at + length part) bytes)
+
+-- the page with the word of each slot
+unfoldable pub with_slots : List ℕ → List Fix → List ℕ
+with_slots page [] = page
+with_slots page (fix ∷ fixes) = with_slots (put_at fix.at (little_bytes 8 (word_of fix fixes)) page) fixes
+
+-- the page with zeros for each slot
+unfoldable pub without_slots : List ℕ → List Fix → List ℕ
+without_slots page [] = page
+without_slots page (fix ∷ fixes) = without_slots (put_at fix.at (replicate 8 0) page) fixes

@@ -1,2 +1,3 @@
 pub mod Chain
+pub mod Fixups
 pub mod Slots

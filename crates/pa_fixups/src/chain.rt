@@ -1,8 +1,9 @@
 ghost use Rattle.std.specs.Prelude.{◌≡◌, ◌≤◌, ◌+◌, ◌^◌, ◌<◌, length, map, IfOk, true, List};
 ghost use Rattle.pa_num.specs.declared.fault.ImageRule.TheVariants.{F3};
 ghost use Rattle.pa_layout.specs.Flaws.{Answers, AnswersOrMemory, GivesOrMemory, Holds, flaw_of, first};
+ghost use Rattle.pa_fixups.specs.declared.kind.Fix.{Fix};
 ghost use Rattle.pa_fixups.specs.Slots.{kind_of, next_of, zeros_hold};
-ghost use Rattle.pa_fixups.specs.Chain.{may_stand, word_at, link_at, fix_at, chain_places, slot_checks, slots_flaw};
+ghost use Rattle.pa_fixups.specs.Chain.{IsChain, chain_flaw, may_stand, word_at, link_at, fix_at, chain_places, slot_checks, slots_flaw};
 
 use crate::bounds::Bounds;
 use crate::kind::{Fix, FixKind, Fixes};
@@ -10,6 +11,9 @@ use crate::slot::read_slot;
 use pa_layout::{Flaw, check, number_of_eight};
 use pa_num::{Fault, ImageRule};
 use std::alloc::Global;
+
+/// The place that tells that a page's first slot may not stand where it should: no offset in a page.
+const NO_PLACE: u64 = 65536;
 
 #[tactic(auto, using(crate::proofs::Walk::slot_ok, crate::proofs::Walk::slot_err))]
 /// What the word of a slot says, and its link, or F3 at its place.
@@ -74,4 +78,28 @@ fn read_slots(
         }
         at += 8 * usize::from(link);
     }
+}
+
+/// The slots of a page along its chain, the first at the offset `first`, or the first flaw with its place in the page. Where
+/// the first slot may not stand there, that is F4 at 65,536.
+pub fn read_chain(
+    alloc: Global,
+    page: &[u8],
+    first: u16,
+    bounds: &Bounds,
+) -> Result<Fixes, Fault<ImageRule>>
+    requires short { length page.now ≤ 0x4000 }
+
+    // What is read is the page's chain, and where the page has a chain, it is read.
+    ensures found { IfOk result (IsChain bounds.now page.now first) }
+    ensures only { (fixes : List Fix) → IsChain bounds.now page.now first fixes → GivesOrMemory fixes result }
+    ensures flaw { AnswersOrMemory result (chain_flaw bounds.now page.now first) }
+{
+    if !bounds.allows(page.len(), first as u64) {
+        return Err(Fault::Refused {
+            rule: ImageRule::F4,
+            place: NO_PLACE,
+        });
+    }
+    read_slots(alloc, page, first as usize, bounds)
 }
