@@ -12,6 +12,13 @@ apart-comm one two e =
     let h : min (one.base + length one.bytes) (two.base + length two.bytes) ≤ max one.base two.base = leb-true _ _ e in
     le-leb _ _ (omega arith)
 
+-- one region begins where the other has ended, or behind
+pub apart-after : (one two : Region) → two.base + length two.bytes ≤ one.base → apart one two ≡ true
+apart-after one two h = le-leb _ _ (omega arith)
+
+pub apart-before : (one two : Region) → one.base + length one.bytes ≤ two.base → apart one two ≡ true
+apart-before one two h = le-leb _ _ (omega arith)
+
 -- no address is in both
 pub apart-holds : (one two : Region) (at : ℕ) → apart one two ≡ true → holds two at ≡ true → holds one at ≡ false
 apart-holds one two at e h = false_from_ne_true _ (λ k.
@@ -19,7 +26,7 @@ apart-holds one two at e h = false_from_ne_true _ (λ k.
     let low : min (one.base + length one.bytes) (two.base + length two.bytes) ≤ max one.base two.base = leb-true _ _ e in
     omega arith)
 
-apart_from_all-append : (one two : Region) (regions : List Region) → apart_from_all one regions ≡ true → apart one two ≡ true → apart_from_all one (regions ++ two ∷ []) ≡ true
+pub apart_from_all-append : (one two : Region) (regions : List Region) → apart_from_all one regions ≡ true → apart one two ≡ true → apart_from_all one (regions ++ two ∷ []) ≡ true
 unfolding apart_from_all
 apart_from_all-append one two [] e h = and_from _ _ h refl
 apart_from_all-append one two (region ∷ regions) e h =

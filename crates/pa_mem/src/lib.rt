@@ -4,6 +4,8 @@
 mod access;
 mod mapping;
 mod space;
+#[cfg(test)]
+mod tests;
 
 pub use access::{Abort, Rights, Size};
 pub use space::{COPY_LIMIT, Space};

@@ -73,7 +73,7 @@ impl Space {
         ensures allowed { allowed Read self.now at (byte_count size) ≡ is_ok result }
         ensures value { IfOk result (λ value. value ≡ load (byte_count size) self.now at) }
     {
-        let bytes = self.bytes(at, size.count())?;
+        let bytes = self.read_bytes(at, size.count())?;
         Ok(read_number(bytes, size))
     }
 
@@ -100,7 +100,7 @@ impl Space {
     }
 
     /// The `count` bytes from `at` on, to be read.
-    pub fn bytes(&self, at: u64, count: u64) -> Result<&[u8], Abort>
+    pub fn read_bytes(&self, at: u64, count: u64) -> Result<&[u8], Abort>
         ensures allowed { allowed Read self.now at count ≡ is_ok result }
         ensures value { IfOk result (λ bytes. bytes.now ≡ bytes_at count self.now at) }
     {
@@ -126,7 +126,7 @@ impl Space {
         ensures err { OnErr result (self.new ≡ self.old) }
     {
         let mut buffer = [0; COPY_LIMIT];
-        fill(&mut buffer, self.bytes(from, count)?);
+        fill(&mut buffer, self.read_bytes(from, count)?);
         self.write_bytes(to, &buffer[..count as usize])
     }
 

@@ -2,3 +2,4 @@ pub mod Placed
 pub mod Steps
 pub mod StepsLeads
 pub mod StepsRun
+pub mod Growth

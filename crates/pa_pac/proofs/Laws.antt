@@ -1,5 +1,5 @@
 -- Laws of signing and authenticating, over any function for the code.
-use Rattle.std.proofs.Common.{inl, inr, eqb, ◌≡◌, ℕ, true, false, List, [], ◌∷◌, length, ◌+◌, ◌*◌, ◌%◌, ◌^◌, ◌<◌, refl, sym, ap, ◌∙◌, arith, Some, None, cond, bit_and, bit_xor}
+use Rattle.std.proofs.Common.{Bool, inl, inr, eqb, ◌≡◌, ℕ, true, false, List, [], ◌∷◌, length, ◌+◌, ◌*◌, ◌%◌, ◌^◌, ◌<◌, refl, sym, ap, ◌∙◌, arith, Some, None, cond, bit_and, bit_xor}
 use Rattle.std.specs.Int.Bits.{xor_mod, and_mod, xor_assoc, xor_self, xor_zero_r, and_zero_r, xor_lt, and_le_r}
 use Rattle.std.specs.Int.{bit_at}
 use Rattle.std.proofs.lemmas.Nat.Bits.{bit_at_xor, bit_at_and, bit_at-lt}
@@ -8,6 +8,7 @@ use Rattle.pa_pac.specs.declared.key.Key.{Key}
 use Rattle.pa_pac.specs.declared.key.Key.TheVariants.{GA}
 use Rattle.pa_pac.specs.declared.pac.PacRow.{PacRow}
 use Rattle.pa_pac.specs.Functions.{table_value, is_for}
+use Rattle.pa_pac.specs.Schema.{blend, modifier}
 use Rattle.pa_pac.specs.Signing.{generic_code, Code, mask, canonical, covered, sign, auth, accepted}
 
 -- ---- canonical addresses
@@ -98,6 +99,16 @@ auth-lt code key modifier value raw e = omega (arith, canonical-lt raw, (auth-so
 
 pub generic_code-lt : (code : Code) (pointer modifier : ℕ) → code GA pointer modifier < 2 ^ 64 → generic_code code pointer modifier < 2 ^ 64
 generic_code-lt code pointer modifier h = omega arith
+
+-- ---- modifiers
+
+pub blend-lt : (pointer integer : ℕ) → blend pointer integer < 2 ^ 64
+unfolding blend
+blend-lt pointer integer = omega arith
+
+pub modifier-lt : (addr : Bool) (disc address : ℕ) → disc < 2 ^ 16 → modifier addr disc address < 2 ^ 64
+modifier-lt true disc address h = blend-lt address disc
+modifier-lt false disc address h = omega arith
 
 -- ---- the value of a table
 

@@ -6,7 +6,7 @@ use Rattle.pa_pac.specs.declared.key.Key.{Key}
 use Rattle.pa_pac.specs.declared.key.Key.TheVariants.{IA, IB, DA, DB, GA}
 use Rattle.pa_pac.specs.declared.pac.PacRow.{PacRow}
 use Rattle.pa_pac.specs.Key.{key_number}
-use Rattle.pa_pac.specs.Functions.{fold_value, table_value, folded, is_for}
+use Rattle.pa_pac.specs.Functions.{sip_value, fold_value, table_value, folded, is_for}
 
 pub key_number-lt : (key : Key) → key_number key < 5
 key_number-lt IA = lit< tt
@@ -35,3 +35,7 @@ table_value-fits [] key pointer modifier = lit< tt
 table_value-fits (row ∷ rows) key pointer modifier =
     cond_both (is_for row key pointer modifier) (row.value % 2 ^ 64) (table_value rows key pointer modifier)
     (λ x. x < 2 ^ 64) (λ _. omega arith) (λ _. table_value-fits rows key pointer modifier)
+
+pub sip_value-fits : (k0 k1 : ℕ) (key : Key) (pointer modifier : ℕ) → sip_value k0 k1 key pointer modifier < 2 ^ 64
+unfolding sip_value
+sip_value-fits k0 k1 key pointer modifier = omega arith
