@@ -1,0 +1,4 @@
+pub mod RoundTrip
+pub mod Rows
+pub mod TwosComplement
+pub mod Words

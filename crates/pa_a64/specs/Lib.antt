@@ -1,0 +1,3 @@
+pub mod Decoding
+pub mod Parts
+pub mod Table
