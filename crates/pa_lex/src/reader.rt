@@ -72,7 +72,10 @@ fn separator_len(text: &[u8]) -> Option<usize>
 fn opens_comment(text: &[u8]) -> bool
     ensures { result ≡ lexes.opens_comment text.now }
 {
-    text.starts_with(b"/*") || text.starts_with(b"//")
+    match text {
+        [b'/', c, ..] => *c == b'*' || *c == b'/',
+        _ => false,
+    }
 }
 
 /// Whether a line begins behind a text.
