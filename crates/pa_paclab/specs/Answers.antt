@@ -113,10 +113,6 @@ abbrev pub OnDone : Exit → Type 0 → Type 0
 OnDone exit.Done P = P
 OnDone answer P = ⊤
 
-abbrev pub OnUsage : Exit → Type 0 → Type 0
-OnUsage (exit.Usage fault) P = P
-OnUsage answer P = ⊤
-
 abbrev pub OnWriteFault : Exit → Type 0 → Type 0
 OnWriteFault exit.WriteFault P = P
 OnWriteFault answer P = ⊤

@@ -3,6 +3,7 @@
 
 mod exit;
 mod lines;
+mod running;
 #[cfg(test)]
 mod tests;
 mod top;

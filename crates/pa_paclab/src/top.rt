@@ -3,12 +3,13 @@ ghost use Rattle.pa_io.specs.Outside.{IsFile, Rose, Grew, GrewByPrefix};
 ghost use Rattle.pa_straight.specs.Source.{IsNoText};
 ghost use Rattle.pa_straight.specs.Shows.{Runs};
 ghost use Rattle.pa_engine.specs.Report.{report_text};
-ghost use Rattle.pa_paclab.specs.Answers.{most_bytes, refusal_by, IsRefused, Accepts, IsAccepted, SomeText, KnownText, Cause, IsUnlessMemory, run_of, report_of, IsReport, Prints, OnDone, OnUsage, OnWriteFault, UnlessReadFault, OnStop, IsStop, IsRefusalOf, IsRunOf};
+ghost use Rattle.pa_paclab.specs.Answers.{most_bytes, refusal_by, IsRefused, Accepts, IsAccepted, SomeText, KnownText, Cause, IsUnlessMemory, run_of, report_of, IsReport, Prints, OnDone, OnWriteFault, UnlessReadFault, OnStop, IsStop, IsRefusalOf, IsRunOf};
 ghost use Rattle.pa_paclab.specs.Lines.{line_of};
 ghost use Rattle.pa_paclab.specs.Words.{file_to_run};
 
 use crate::exit::{Exit, Refusal, Rule, UseFault};
 use crate::lines::write_line;
+use crate::running::run_program;
 use crate::words::file_to_run;
 use pa_engine::{Ran, report};
 use pa_io::{Failed, Shelf, ShelfFault, Sink, Source};
@@ -64,16 +65,6 @@ fn parse(alloc: Global, text: &[u8]) -> Result<Straight, Exit>
     }
 }
 
-/// What the run of a program leaves, of which the report is printed.
-fn run_program<P: Pac>(alloc: Global, program: &Straight, host: &P) -> Result<Ran, Memory>
-    ensures { IfOk result (λ ran. IsRunOf (P.code host.now) program.now ran.output ran.end ran.log.entries) }
-{
-    let _ = alloc;
-    let _ = program;
-    let _ = host;
-    Err(Memory)
-}
-
 /// Runs the file that the words name, or answers why nothing was run.
 fn answer<H: Shelf, P: Pac>(alloc: Global, words: &[String], shelf: &mut H, host: &P) -> Result<Ran, Exit>
     ensures ran { IfOk result (λ ran. IsSomeAnd (file_to_run (map string_bytes words.now)) (λ name.
@@ -84,7 +75,7 @@ fn answer<H: Shelf, P: Pac>(alloc: Global, words: &[String], shelf: &mut H, host
         faults_now = H.faults shelf.new;
         failed_now = H.failed shelf.new;
       }) }
-    ensures usage { file_to_run (map string_bytes words.now) ≡ None → result ≡ Err (Exit.Usage UseFault.U1) }
+    ensures usage { file_to_run (map string_bytes words.now) ≡ None → (result ≡ Err (Exit.Usage UseFault.U1)) × (shelf.new ≡ shelf.old) }
     ensures stop { IfErr result IsStop }
     ensures tells { H.told shelf.new ≡ H.told shelf.old }
     ensures ok { IfOk result (λ _. (H.faults shelf.new ≡ H.faults shelf.old) × (H.failed shelf.new ≡ H.failed shelf.old)) }
@@ -116,7 +107,7 @@ pub fn paclab<H: Shelf, S: Source, K: Sink, P: Pac>(
         faults_now = H.faults shelf.new;
         failed_now = H.failed shelf.new;
       } result }
-    ensures usage { file_to_run (map string_bytes words.now) ≡ None → result ≡ Exit.Usage UseFault.U1 }
+    ensures usage { file_to_run (map string_bytes words.now) ≡ None → (result ≡ Exit.Usage UseFault.U1) × (shelf.new ≡ shelf.old) }
     ensures refused { (refusal : Refusal) → IsSomeAnd (file_to_run (map string_bytes words.now)) (λ name.
         KnownText (H.told shelf.old name) (IsRefused refusal)) → ¬ Rose (H.faults shelf.old) (H.faults shelf.new)
         → IsUnlessMemory result (Exit.Refused refusal) }
