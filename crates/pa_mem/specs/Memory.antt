@@ -1,5 +1,8 @@
 -- Memory: a list of regions, read and written by address, the lowest byte of a number first.
-use Rattle.std.specs.Prelude.{ℕ, zero, suc, ◌+◌, ◌-◌, ◌*◌, ◌/◌, ◌%◌, List, [], ◌∷◌, length, slice_index, slice_set, Bool, true, false, ◌&&◌, ◌||◌, nat_le, nat_lt, ◌==◌, if◌then◌else◌, Option, Some, None}
+use Rattle.std.specs.Prelude.{ℕ, zero, suc, ◌+◌, ◌-◌, ◌*◌, ◌/◌, ◌%◌, min, max, List, [], ◌∷◌, length, slice_index, slice_set, Bool, true, false, not, ◌&&◌, ◌||◌, nat_le, nat_lt, ◌==◌, if◌then◌else◌, Option, Some, None}
+use Rattle.std.specs.List.{list_any}
+use Rattle.pa_mem.specs.declared.access.Rights.{Rights}
+use Rattle.pa_mem.specs.Access.{includes}
 
 -- bytes from an address on, and what may be done with them
 pub record Region : Type 0 where
@@ -27,6 +30,19 @@ unfoldable pub allowed : Right → List Region → ℕ → ℕ → Bool
 allowed right [] at n = false
 allowed right (region ∷ regions) at n =
     (nat_le region.base at && (nat_le (at + n) (region.base + length region.bytes) && has right region)) || allowed right regions at n
+
+-- the rights of a region
+abbrev pub rights_of : Region → Rights
+rights_of region = record { read = region.reads; write = region.writes; run = region.runs }
+
+-- the n bytes from an address on lie inside this region, and it has at least these rights
+abbrev pub offers : Rights → ℕ → ℕ → Region → Bool
+offers rights at n region =
+    nat_le region.base at && (nat_le (at + n) (region.base + length region.bytes) && includes (rights_of region) rights)
+
+-- the n bytes from an address on lie inside one region that has at least these rights
+unfoldable pub inside : Rights → List Region → ℕ → ℕ → Bool
+inside rights regions at n = list_any (offers rights at n) regions
 
 -- the byte at an address, and 0 where no region is
 unfoldable pub byte_at : List Region → ℕ → ℕ
@@ -64,10 +80,26 @@ unfoldable pub with_bytes : List Region → ℕ → List ℕ → List Region
 with_bytes regions at [] = regions
 with_bytes regions at (byte ∷ bytes) = with_bytes (with_byte regions at byte) (at + 1) bytes
 
--- no address is in two regions, and none is behind the last address
+-- no address is in both regions
 abbrev pub apart : Region → Region → Bool
-apart one two = nat_le (one.base + length one.bytes) two.base || nat_le (two.base + length two.bytes) one.base
+apart one two =
+    nat_le (min (one.base + length one.bytes) (two.base + length two.bytes)) (max one.base two.base)
 
 unfoldable pub apart_from_all : Region → List Region → Bool
 apart_from_all one [] = true
 apart_from_all one (region ∷ regions) = apart one region && apart_from_all one regions
+
+-- no address is in two of the regions
+unfoldable pub all_apart : List Region → Bool
+all_apart [] = true
+all_apart (region ∷ regions) = apart_from_all region regions && all_apart regions
+
+-- no region may be both written and run
+unfoldable pub write_xor_run : List Region → Bool
+write_xor_run [] = true
+write_xor_run (region ∷ regions) = not (region.writes && region.runs) && write_xor_run regions
+
+-- a region of these bytes from an address on
+abbrev pub region_of : ℕ → List ℕ → Rights → Region
+region_of base bytes rights =
+    record { base = base; bytes = bytes; reads = rights.read; writes = rights.write; runs = rights.run }

@@ -1,2 +1,11 @@
 //! The memory of the guest: bytes by address, in regions with rights.
 #![tactic(auto)]
+
+mod access;
+mod mapping;
+mod space;
+#[cfg(test)]
+mod tests;
+
+pub use access::{Abort, Rights, Size};
+pub use space::{COPY_LIMIT, Space};

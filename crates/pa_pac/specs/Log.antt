@@ -1,5 +1,5 @@
 -- What a log says. In definitions a log has its newest entry first.
-use Rattle.std.specs.Prelude.{ℕ, Bool, true, false, ◌==◌, ◌&&◌, ◌||◌, List, [], ◌∷◌}
+use Rattle.std.specs.Prelude.{ℕ, Bool, false, ◌==◌, ◌&&◌, ◌||◌, List, [], ◌∷◌}
 use Rattle.pa_pac.specs.declared.key.Key.{Key}
 use Rattle.pa_pac.specs.declared.event.Event.{Event}
 use Rattle.pa_pac.specs.declared.event.Event.TheVariants.{Sign, Take, Land}

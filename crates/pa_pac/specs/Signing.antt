@@ -2,6 +2,7 @@
 -- (Arm Architecture Reference Manual, pointer authentication with FEAT_PAuth2, without tags).
 use Rattle.std.specs.Prelude.{ℕ, ◌+◌, ◌*◌, ◌/◌, ◌%◌, ◌^◌, ◌==◌, if◌then◌else◌, Option, Some, None, bit_xor, bit_and}
 use Rattle.pa_pac.specs.declared.key.Key.{Key}
+use Rattle.pa_pac.specs.declared.key.Key.TheVariants.{GA}
 
 -- a function from a key, a pointer and a modifier to a code
 abbrev pub Code : Type 0
@@ -28,3 +29,7 @@ accepted raw = if raw == canonical raw then Some raw else None
 
 abbrev pub auth : Code → Key → ℕ → ℕ → Option ℕ
 auth code key modifier value = accepted (covered code key modifier value)
+
+-- the authentication code of data under the generic key: the upper half of the code, with zeros below
+abbrev pub generic_code : Code → ℕ → ℕ → ℕ
+generic_code code pointer modifier = code GA pointer modifier / 2 ^ 32 * 2 ^ 32

@@ -1,4 +1,4 @@
-ghost use Rattle.std.specs.Prelude.{◌≡◌, MatchResult, Some, None};
+ghost use Rattle.std.specs.Prelude.{◌≡◌, IfOk, MatchResult, Some, None};
 ghost use Rattle.pa_pac.specs.Signing as spec;
 
 use crate::key::Key;
@@ -41,12 +41,36 @@ pub fn sign<P: Pac>(p: &P, key: Key, modifier: u64, raw: u64) -> u64
 /// The address that `value` was signed from under this key and modifier. It is refused exactly where what lies under the
 /// code isn't canonical.
 pub fn auth<P: Pac>(p: &P, key: Key, modifier: u64, value: u64) -> Result<u64, NotCanonical>
-    ensures { MatchResult result (λ raw. spec.auth (P.code p.now) key modifier value ≡ Some raw) (λ _. spec.auth (P.code p.now) key modifier value ≡ None) }
+    ensures value { MatchResult result (λ raw. spec.auth (P.code p.now) key modifier value ≡ Some raw) (λ _. spec.auth (P.code p.now) key modifier value ≡ None) }
+    ensures signed { IfOk result (λ raw. (spec.canonical raw ≡ raw) × (spec.sign (P.code p.now) key modifier raw ≡ value)) }
 {
     let raw = covered(p, key, modifier, value);
     if raw == canonical(raw) {
         Ok(raw)
     } else {
         Err(NotCanonical)
+    }
+}
+
+#[cfg(test)]
+mod tests {
+    use super::{NotCanonical, auth, canonical, sign};
+    use crate::key::Key;
+    use crate::pac::FoldPac;
+
+    #[test]
+    fn accepts_under_its_own_modifier_and_one_that_folds_alike(rt: HostRuntime) {
+        let signed = sign(&FoldPac, Key::IA, 0x1234, 0x1_0000_8010);
+        assert_eq!(rt; signed, 0x9225_0001_0000_8010);
+        assert_eq!(rt; auth(&FoldPac, Key::IA, 0x1234, signed), Ok(0x1_0000_8010));
+        assert_eq!(rt; auth(&FoldPac, Key::IA, 0x1235, signed), Err(NotCanonical));
+        assert_eq!(rt; auth(&FoldPac, Key::IA, 0x12b4, signed), Ok(0x1_0000_8010));
+        assert_eq!(rt; auth(&FoldPac, Key::IB, 0x1234, signed), Err(NotCanonical));
+    }
+
+    #[test]
+    fn extends_the_selector(rt: HostRuntime) {
+        assert_eq!(rt; canonical(0x9225_0001_0000_8010), 0x1_0000_8010);
+        assert_eq!(rt; canonical(0x0080_0000_0000_0010), 0xFFFF_0000_0000_0010);
     }
 }

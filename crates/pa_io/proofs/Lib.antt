@@ -1,0 +1,3 @@
+mod Failures
+pub mod Growth
+mod Shifted

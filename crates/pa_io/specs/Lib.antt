@@ -1,0 +1,5 @@
+pub mod Answer
+pub mod Calls
+pub mod Files
+pub mod Memory
+pub mod Outside

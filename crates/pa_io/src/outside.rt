@@ -1,0 +1,118 @@
+ghost use Rattle.std.specs.Prelude.{◌≡◌, ◌<◌, ◌≤◌, ℕ, List, length, take, drop, Option, Some, IfOk, OnOk, OnErr, vec_len};
+ghost use Rattle.std.specs.Io.KnownBytes.{Consumes, IsAtEnd};
+ghost use Rattle.pa_io.specs.Outside.{Told, IsFile, IsLonger, Rose, OnFailed, OnLong, UnlessFailed, Grew, Stayed, GrewByPrefix};
+
+use std::alloc::{AllocError, Global};
+use thiserror::Error;
+
+/// Why a shelf gives no file.
+#[derive(Clone, Copy, Debug, PartialEq, Eq, Error)]
+pub enum ShelfFault {
+    /// The reading failed, or there is no file of that name.
+    #[error("the file could not be read")]
+    Failed,
+    /// The file has more bytes than were allowed.
+    #[error("the file is longer than allowed")]
+    Long,
+    /// Want of memory, and nothing else.
+    #[error("out of memory")]
+    Memory,
+}
+
+impl From<AllocError> for ShelfFault {
+    ghost use Rattle.std.specs.Prelude.{◌≡◌};
+    ghost use Rattle.pa_io.specs.declared.outside.ShelfFault.TheVariants as fault;
+
+    ghost from_gives = { λ _ f. f ≡ fault.Memory };
+
+    fn from(_: AllocError) -> ShelfFault {
+        ShelfFault::Memory
+    }
+}
+
+/// A source gave no bytes, or a sink took none, because of a fault.
+#[derive(Clone, Copy, Debug, PartialEq, Eq, Error)]
+#[error("the reading or writing failed")]
+pub struct Failed;
+
+/// Files by name. The shelf counts its faults, and keeps the name of the last one; the count never falls.
+pub trait Shelf {
+    // The count of faults so far.
+    ghost faults: { Self → ℕ };
+
+    // The name of the last call that answered `Failed`.
+    ghost failed: { Self → Option (List ℕ) };
+
+    // What the shelf tells of each name.
+    ghost told: { Self → List ℕ → Told };
+
+    /// All the bytes of the file of that name, at most `limit` of them. It is `Long` where the file has more, `Failed` where
+    /// there is none or it can't be read, and `Memory` for want of memory.
+    fn read(&mut self, alloc: Global, name: &str, limit: u64) -> Result<Vec<u8>, ShelfFault>
+        ensures whole { IfOk result (λ bytes. IsFile (told self.old name.now) bytes.items) }
+        ensures within { IfOk result (λ bytes. vec_len bytes ≤ limit) }
+        ensures longer { OnLong result (IsLonger (told self.old name.now) limit) }
+        ensures tells { told self.new ≡ told self.old }
+
+        // A fault is counted, and its name kept; any other answer leaves both.
+        ensures fault { OnFailed result (Rose (faults self.old) (faults self.new) × (failed self.new ≡ Some name.now)) }
+        ensures others { UnlessFailed result ((faults self.new ≡ faults self.old) × (failed self.new ≡ failed self.old)) };
+}
+
+/// Bytes that come one piece after another. The source counts its faults; the count never falls.
+pub trait Source {
+    // The count of faults so far.
+    ghost faults: { Self → ℕ };
+
+    // The bytes that are left, where they are told.
+    ghost left: { Self → Option (List ℕ) };
+
+    /// Puts the next bytes at the buffer's front, and answers how many. Zero for a buffer that isn't empty means the end.
+    fn read(&mut self, buffer: &mut [u8]) -> Result<usize, Failed>
+        ensures within { IfOk result (λ n. n ≤ length buffer.old) }
+        ensures next { IfOk result (λ n. Consumes (left self.old) (left self.new) (take n buffer.new)) }
+        ensures rest { IfOk result (λ n. drop n buffer.new ≡ drop n buffer.old) }
+        ensures end { IfOk result (λ n. n ≡ 0 → 0 < length buffer.old → IsAtEnd (left self.old)) }
+
+        // A fault is counted; any other answer leaves the count.
+        ensures fault { OnErr result (Rose (faults self.old) (faults self.new)) }
+        ensures others { OnOk result (faults self.new ≡ faults self.old) };
+}
+
+/// Takes bytes one piece after another. The sink counts its faults; the count never falls.
+pub trait Sink {
+    // The count of faults so far.
+    ghost faults: { Self → ℕ };
+
+    // The bytes that were written, where they are told.
+    ghost written: { Self → Option (List ℕ) };
+
+    /// Takes the first bytes of the piece, and answers how many. Zero for a piece that isn't empty is a fault.
+    fn write(&mut self, bytes: &[u8]) -> Result<usize, Failed>
+        ensures within { IfOk result (λ n. n ≤ length bytes.now) }
+        ensures appended { IfOk result (λ n. Grew (written self.old) (written self.new) (take n bytes.now)) }
+        ensures stayed { OnErr result (Stayed (written self.old) (written self.new)) }
+
+        // A fault is counted, and the count never falls.
+        ensures fault { OnErr result (Rose (faults self.old) (faults self.new)) }
+        ensures nothing { IfOk result (λ n. n ≡ 0 → 0 < length bytes.now → Rose (faults self.old) (faults self.new)) }
+        ensures kept { faults self.old ≤ faults self.new };
+}
+
+/// Writes all the bytes, in as many pieces as the sink takes them. It gives up where the sink fails or takes nothing.
+pub fn write_all<K: Sink>(out: &mut K, bytes: &[u8]) -> Result<(), Failed>
+    ensures all { OnOk result (Grew (K.written out.old) (K.written out.new) bytes.now) }
+    ensures prefix { OnErr result (GrewByPrefix (K.written out.old) (K.written out.new) bytes.now) }
+    ensures fault { OnErr result (Rose (K.faults out.old) (K.faults out.new)) }
+    ensures kept { K.faults out.old ≤ K.faults out.new }
+{
+    let mut rest = bytes;
+    while !rest.is_empty() {
+        let taken = out.write(rest)?;
+        if taken == 0 {
+            return Err(Failed);
+        }
+        rest = &rest[taken..];
+    }
+    Ok(())
+}

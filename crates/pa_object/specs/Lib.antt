@@ -1,0 +1,5 @@
+pub mod Effects
+pub mod Machine
+pub mod Run
+pub mod Shape
+pub mod Traps

@@ -1,0 +1,10 @@
+//! Objects of code, and what the machine is: its step and its runs as definitions.
+#![tactic(auto)]
+
+mod end;
+mod flags;
+mod script;
+
+pub use end::{End, Trap};
+pub use flags::Flags;
+pub use script::{Deed, Item, Items};
