@@ -1,8 +1,10 @@
 -- Instructions and the words of their rows, both ways.
 use Rattle.std.proofs.Common.{◌≡◌, ◌≢◌, ℕ, ◌+◌, ◌-◌, ◌*◌, ◌/◌, ◌%◌, ◌^◌, ◌<◌, ◌≤◌, List, [], ◌∷◌, Option, Some, None, refl, sym, ap, subst, ◌∙◌, arith, rules, lit≤, lit<}
 use Rattle.std.specs.Prelude.{Bool, true, false, cond, not, eqb, ltb, IsTrue, ℤ}
+use mir.Val.{bool_byte}
 use Rattle.std.proofs.lemmas.Bool.{eqb-true, eq-eqb, false≢true, and_parts, ltb-true}
 use Rattle.std.proofs.lemmas.Nat.{pow-add, mul-add-lt}
+use Rattle.pa_num.specs.Bits.{field, with_field}
 use Rattle.pa_a64.specs.declared.instr.Instr.{Instr}
 use Rattle.pa_a64.specs.declared.instr.AuthenticateOp.{AuthenticateOp}
 use Rattle.pa_a64.specs.declared.instr.BitfieldOp.{BitfieldOp}
@@ -28,95 +30,11 @@ use Rattle.pa_a64.specs.declared.instr.StackOp.{StackOp}
 use Rattle.pa_a64.specs.declared.instr.SumOp.{SumOp}
 use Rattle.pa_a64.specs.declared.instr.SumImmediateOp.{SumImmediateOp}
 use Rattle.pa_a64.specs.Decoding.{decoded, decoded_among, decoded_by, encoded, instruction, instruction_of, or_else, row, values, InRange, IsSigned, bits_of_signed, signed_of_bits, bit_of, is_pair}
-use Rattle.pa_a64.specs.Parts.{Part, Fixed, Field, word, fields}
+use Rattle.pa_a64.specs.Parts.{Part, Fixed, Field, word, fields, fixed}
 use Rattle.pa_a64.specs.Table.{Row, parts, rows}
-use Rattle.pa_a64.proofs.Rows.{found_in_table, row_fits}
+use Rattle.pa_a64.proofs.Rows.{found_in_table, row_fits, total-parts, line_places, places_of-parts}
 use Rattle.pa_a64.proofs.TwosComplement.{bits_fit, IsSigned-signed, signed-bits, bits-signed}
-use Rattle.pa_a64.proofs.Words.{Fit, fixed, fixed_fit, with_values, fields_word, word-fields, word_from_puts}
-
--- the widths of a row's fields, which don't hang on its operation
-abbrev pub widths : Row → List ℕ
-widths (Row.MoveWide op) = 5 ∷ 16 ∷ 2 ∷ []
-widths (Row.SumImmediate op) = 5 ∷ 5 ∷ 12 ∷ 1 ∷ []
-widths Row.SubsImmediate = 5 ∷ 5 ∷ 12 ∷ 1 ∷ []
-widths (Row.Sum op) = 5 ∷ 5 ∷ 5 ∷ []
-widths (Row.Logical op) = 5 ∷ 5 ∷ 5 ∷ []
-widths (Row.MultiplyAdd op) = 5 ∷ 5 ∷ 5 ∷ 5 ∷ []
-widths (Row.Divide op) = 5 ∷ 5 ∷ 5 ∷ []
-widths (Row.Shift op) = 5 ∷ 5 ∷ 5 ∷ []
-widths (Row.Bitfield op) = 5 ∷ 5 ∷ 6 ∷ 6 ∷ []
-widths Row.Csinc = 5 ∷ 5 ∷ 4 ∷ 5 ∷ []
-widths Row.Adrp = 5 ∷ 19 ∷ 2 ∷ []
-widths Row.Nop = []
-widths (Row.LoadStore op) = 5 ∷ 5 ∷ 12 ∷ []
-widths (Row.LoadStoreWord op) = 5 ∷ 5 ∷ 12 ∷ []
-widths (Row.LoadStoreHalf op) = 5 ∷ 5 ∷ 12 ∷ []
-widths (Row.LoadStoreByte op) = 5 ∷ 5 ∷ 12 ∷ []
-widths (Row.LoadStoreUnscaled op) = 5 ∷ 5 ∷ 9 ∷ []
-widths (Row.LoadStorePair op) = 5 ∷ 5 ∷ 5 ∷ 7 ∷ []
-widths (Row.Branch op) = 26 ∷ []
-widths Row.BranchConditional = 4 ∷ 19 ∷ []
-widths (Row.CompareBranch op) = 5 ∷ 19 ∷ []
-widths (Row.BranchRegister op) = 5 ∷ []
-widths (Row.BranchAuthenticated op) = 5 ∷ 5 ∷ []
-widths Row.Blraaz = 5 ∷ []
-widths (Row.Stack op) = []
-widths (Row.Sign op) = 5 ∷ 5 ∷ []
-widths (Row.Authenticate op) = 5 ∷ 5 ∷ []
-widths (Row.Plain op) = 5 ∷ []
-widths Row.Pacga = 5 ∷ 5 ∷ 5 ∷ []
-widths (Row.Exception op) = 16 ∷ []
-
-abbrev pub field_widths : List Part → List ℕ
-field_widths [] = []
-field_widths (Fixed n v ∷ ps) = field_widths ps
-field_widths (Field n ∷ ps) = n ∷ field_widths ps
-
-abbrev pub FitWidths : List ℕ → List ℕ → Type 0
-FitWidths [] [] = Unit {0}
-FitWidths [] (x ∷ xs) = ⊥
-FitWidths (n ∷ ns) [] = ⊥
-FitWidths (n ∷ ns) (x ∷ xs) = (x < 2 ^ n) × FitWidths ns xs
-
-Fit-FitWidths : (ps : List Part) (xs : List ℕ) → FitWidths (field_widths ps) xs → Fit ps xs
-Fit-FitWidths [] [] h = tt
-Fit-FitWidths [] (x ∷ xs) h = absurd h
-Fit-FitWidths (Fixed n v ∷ ps) xs h = Fit-FitWidths ps xs h
-Fit-FitWidths (Field n ∷ ps) [] h = absurd h
-Fit-FitWidths (Field n ∷ ps) (x ∷ xs) h = (h.0, Fit-FitWidths ps xs h.1)
-
-FitWidths-Fit : (ps : List Part) (xs : List ℕ) → Fit ps xs → FitWidths (field_widths ps) xs
-FitWidths-Fit [] [] h = tt
-FitWidths-Fit [] (x ∷ xs) h = absurd h
-FitWidths-Fit (Fixed n v ∷ ps) xs h = FitWidths-Fit ps xs h
-FitWidths-Fit (Field n ∷ ps) [] h = absurd h
-FitWidths-Fit (Field n ∷ ps) (x ∷ xs) h = (h.0, FitWidths-Fit ps xs h.1)
-
-field_widths-parts : (r : Row) → field_widths (parts r) ≡ widths r
-field_widths-parts (Row.MoveWide MoveWideOp.Movz) = refl
-field_widths-parts (Row.SumImmediate SumImmediateOp.Add) = refl
-field_widths-parts (Row.Sum SumOp.Add) = refl
-field_widths-parts (Row.Logical LogicalOp.And) = refl
-field_widths-parts (Row.MultiplyAdd MultiplyAddOp.Madd) = refl
-field_widths-parts (Row.Divide DivideOp.Udiv) = refl
-field_widths-parts (Row.Shift ShiftOp.Lslv) = refl
-field_widths-parts (Row.Bitfield BitfieldOp.Sbfm) = refl
-field_widths-parts (Row.LoadStore LoadStoreOp.Ldr) = refl
-field_widths-parts (Row.LoadStoreWord LoadStoreWordOp.Ldrw) = refl
-field_widths-parts (Row.LoadStoreHalf LoadStoreHalfOp.Ldrh) = refl
-field_widths-parts (Row.LoadStoreByte LoadStoreByteOp.Ldrb) = refl
-field_widths-parts (Row.LoadStoreUnscaled LoadStoreUnscaledOp.Ldur) = refl
-field_widths-parts (Row.LoadStorePair LoadStorePairOp.Ldp) = refl
-field_widths-parts (Row.Branch BranchOp.B) = refl
-field_widths-parts (Row.CompareBranch CompareBranchOp.Cbz) = refl
-field_widths-parts (Row.BranchRegister BranchRegisterOp.Br) = refl
-field_widths-parts (Row.BranchAuthenticated BranchAuthenticatedOp.Braa) = refl
-field_widths-parts (Row.Stack StackOp.Retab) = refl
-field_widths-parts (Row.Sign SignOp.Pacia) = refl
-field_widths-parts (Row.Authenticate AuthenticateOp.Autia) = refl
-field_widths-parts (Row.Plain PlainOp.Paciza) = refl
-field_widths-parts (Row.Exception ExceptionOp.Svc) = refl
-field_widths-parts _ = refl
+use Rattle.pa_a64.proofs.Words.{Place, At, places_of, puts, Fit, fixed_fit, total, fields_word, word-fields, word_from_puts}
 
 bit_fits : (b : Bool) → bit_of b < 2 ^ 1
 bit_fits false = omega arith
@@ -142,40 +60,40 @@ pages_parts high low h rd =
     let lower : (high * 4 + low) % 4 ≡ low = omega arith in
     rw (upper, lower) refl
 
-FitWidths-values : (i : Instr) → InRange i → FitWidths (widths (row i)) (values i)
-FitWidths-values (Instr.MoveWide op rd imm hw) h = (h.0, (h.1, (h.2, tt)))
-FitWidths-values (Instr.SumImmediate op rd rn imm shifted) h = (h.0, (h.1, (h.2, (bit_fits shifted, tt))))
-FitWidths-values (Instr.SubsImmediate rd rn imm shifted) h = (h.0, (h.1, (h.2, (bit_fits shifted, tt))))
-FitWidths-values (Instr.Sum op rd rn rm) h = (h.0, (h.1, (h.2, tt)))
-FitWidths-values (Instr.Logical op rd rn rm) h = (h.0, (h.1, (h.2, tt)))
-FitWidths-values (Instr.MultiplyAdd op rd rn rm ra) h = (h.0, (h.1, (h.3, (h.2, tt))))
-FitWidths-values (Instr.Divide op rd rn rm) h = (h.0, (h.1, (h.2, tt)))
-FitWidths-values (Instr.Shift op rd rn rm) h = (h.0, (h.1, (h.2, tt)))
-FitWidths-values (Instr.Bitfield op rd rn immr imms) h = (h.0, (h.1, (h.3, (h.2, tt))))
-FitWidths-values (Instr.Csinc rd rn rm condition) h = (h.0, (h.1, (h.3, (h.2, tt))))
-FitWidths-values (Instr.Adrp rd pages) h = (h.0, ((let f = bits_fit 21 pages (lit≤ tt) h.1 in omega arith), ((let f = bits_fit 21 pages (lit≤ tt) h.1 in omega arith), tt)))
-FitWidths-values Instr.Nop h = tt
-FitWidths-values (Instr.LoadStore op rt rn imm) h = (h.0, (h.1, (h.2, tt)))
-FitWidths-values (Instr.LoadStoreWord op rt rn imm) h = (h.0, (h.1, (h.2, tt)))
-FitWidths-values (Instr.LoadStoreHalf op rt rn imm) h = (h.0, (h.1, (h.2, tt)))
-FitWidths-values (Instr.LoadStoreByte op rt rn imm) h = (h.0, (h.1, (h.2, tt)))
-FitWidths-values (Instr.LoadStoreUnscaled op rt rn imm) h = (h.0, (h.1, (bits_fit 9 imm (lit≤ tt) h.2, tt)))
-FitWidths-values (Instr.LoadStorePair op rt rt2 rn imm) h = (h.0, (h.2, (h.1, (bits_fit 7 imm (lit≤ tt) h.3, tt))))
-FitWidths-values (Instr.Branch op words) h = (bits_fit 26 words (lit≤ tt) h, tt)
-FitWidths-values (Instr.BranchConditional condition words) h = (h.0, (bits_fit 19 words (lit≤ tt) h.1, tt))
-FitWidths-values (Instr.CompareBranch op rt words) h = (h.0, (bits_fit 19 words (lit≤ tt) h.1, tt))
-FitWidths-values (Instr.BranchRegister op rn) h = (h, tt)
-FitWidths-values (Instr.BranchAuthenticated op rn rm) h = (h.1, (h.0, tt))
-FitWidths-values (Instr.Blraaz rn) h = (h, tt)
-FitWidths-values (Instr.Stack op) h = tt
-FitWidths-values (Instr.Sign op rd rn) h = (h.0, (h.1, tt))
-FitWidths-values (Instr.Authenticate op rd rn) h = (h.0, (h.1, tt))
-FitWidths-values (Instr.Plain op rd) h = (h, tt)
-FitWidths-values (Instr.Pacga rd rn rm) h = (h.0, (h.1, (h.2, tt)))
-FitWidths-values (Instr.Exception op imm) h = (h, tt)
+Fit-line : (i : Instr) → InRange i → Fit (line_places (row i)) (values i)
+Fit-line (Instr.MoveWide op rd imm hw) h = (h.0, (h.1, (h.2, tt)))
+Fit-line (Instr.SumImmediate op rd rn imm shifted) h = (h.0, (h.1, (h.2, (bit_fits shifted, tt))))
+Fit-line (Instr.SubsImmediate rd rn imm shifted) h = (h.0, (h.1, (h.2, (bit_fits shifted, tt))))
+Fit-line (Instr.Sum op rd rn rm) h = (h.0, (h.1, (h.2, tt)))
+Fit-line (Instr.Logical op rd rn rm) h = (h.0, (h.1, (h.2, tt)))
+Fit-line (Instr.MultiplyAdd op rd rn rm ra) h = (h.0, (h.1, (h.3, (h.2, tt))))
+Fit-line (Instr.Divide op rd rn rm) h = (h.0, (h.1, (h.2, tt)))
+Fit-line (Instr.Shift op rd rn rm) h = (h.0, (h.1, (h.2, tt)))
+Fit-line (Instr.Bitfield op rd rn immr imms) h = (h.0, (h.1, (h.3, (h.2, tt))))
+Fit-line (Instr.Csinc rd rn rm condition) h = (h.0, (h.1, (h.3, (h.2, tt))))
+Fit-line (Instr.Adrp rd pages) h = (h.0, ((let f = bits_fit 21 pages (lit≤ tt) h.1 in omega arith), ((let f = bits_fit 21 pages (lit≤ tt) h.1 in omega arith), tt)))
+Fit-line Instr.Nop h = tt
+Fit-line (Instr.LoadStore op rt rn imm) h = (h.0, (h.1, (h.2, tt)))
+Fit-line (Instr.LoadStoreWord op rt rn imm) h = (h.0, (h.1, (h.2, tt)))
+Fit-line (Instr.LoadStoreHalf op rt rn imm) h = (h.0, (h.1, (h.2, tt)))
+Fit-line (Instr.LoadStoreByte op rt rn imm) h = (h.0, (h.1, (h.2, tt)))
+Fit-line (Instr.LoadStoreUnscaled op rt rn imm) h = (h.0, (h.1, (bits_fit 9 imm (lit≤ tt) h.2, tt)))
+Fit-line (Instr.LoadStorePair op rt rt2 rn imm) h = (h.0, (h.2, (h.1, (bits_fit 7 imm (lit≤ tt) h.3, tt))))
+Fit-line (Instr.Branch op words) h = (bits_fit 26 words (lit≤ tt) h, tt)
+Fit-line (Instr.BranchConditional condition words) h = (h.0, (bits_fit 19 words (lit≤ tt) h.1, tt))
+Fit-line (Instr.CompareBranch op rt words) h = (h.0, (bits_fit 19 words (lit≤ tt) h.1, tt))
+Fit-line (Instr.BranchRegister op rn) h = (h, tt)
+Fit-line (Instr.BranchAuthenticated op rn rm) h = (h.1, (h.0, tt))
+Fit-line (Instr.Blraaz rn) h = (h, tt)
+Fit-line (Instr.Stack op) h = tt
+Fit-line (Instr.Sign op rd rn) h = (h.0, (h.1, tt))
+Fit-line (Instr.Authenticate op rd rn) h = (h.0, (h.1, tt))
+Fit-line (Instr.Plain op rd) h = (h, tt)
+Fit-line (Instr.Pacga rd rn rm) h = (h.0, (h.1, (h.2, tt)))
+Fit-line (Instr.Exception op imm) h = (h, tt)
 
-pub Fit-values : (i : Instr) → InRange i → Fit (parts (row i)) (values i)
-Fit-values i h = Fit-FitWidths (parts (row i)) (values i) (subst (λ ns. FitWidths ns (values i)) (sym (field_widths-parts (row i))) (FitWidths-values i h))
+pub Fit-values : (i : Instr) → InRange i → Fit (places_of 0 (parts (row i))) (values i)
+Fit-values i h = subst (λ ps. Fit ps (values i)) (sym (places_of-parts (row i))) (Fit-line i h)
 
 -- an instruction in range is what its row's values give
 pub instruction-values : (i : Instr) → InRange i → instruction (row i) (values i) ≡ Some i
@@ -217,7 +135,7 @@ Reads r xs i = InRange i × (row i ≡ r) × (values i ≡ xs)
 reads_as : (r : Row) (xs : List ℕ) (i j : Instr) → Some j ≡ Some i → Reads r xs j → Reads r xs i
 reads_as r xs i j e h = let same : j ≡ i = cc in subst (Reads r xs) same h
 
-pub values-instruction : (r : Row) (xs : List ℕ) (i : Instr) → FitWidths (widths r) xs → instruction r xs ≡ Some i → Reads r xs i
+pub values-instruction : (r : Row) (xs : List ℕ) (i : Instr) → Fit (line_places r) xs → instruction r xs ≡ Some i → Reads r xs i
 values-instruction (Row.MoveWide op) (rd ∷ imm ∷ hw ∷ []) i h e = reads_as _ _ i (Instr.MoveWide op rd imm hw) e ((h.0, h.1.0, h.1.1.0), refl, refl)
 values-instruction (Row.SumImmediate op) (rd ∷ rn ∷ imm ∷ sh ∷ []) i h e = reads_as _ _ i (Instr.SumImmediate op rd rn imm (eqb sh 1)) e ((h.0, h.1.0, h.1.1.0), refl, ap (λ z. rd ∷ rn ∷ imm ∷ z ∷ []) (back_bit sh h.1.1.1.0))
 values-instruction Row.SubsImmediate (rd ∷ rn ∷ imm ∷ sh ∷ []) i h e = reads_as _ _ i (Instr.SubsImmediate rd rn imm (eqb sh 1)) e ((h.0, h.1.0, h.1.1.0), refl, ap (λ z. rd ∷ rn ∷ imm ∷ z ∷ []) (back_bit sh h.1.1.1.0))
@@ -263,7 +181,7 @@ values-instruction _ _ i h e = cc
 pub decoded_by-encoded : (i : Instr) → InRange i → decoded_by (row i) (encoded i) ≡ Some i
 unfolding decoded_by encoded
 decoded_by-encoded i h =
-    ap (instruction_of (row i)) (fields_word (parts (row i)) (values i) (row_fits (row i)) (Fit-values i h)) ∙ instruction-values i h
+    ap (instruction_of (row i)) (fields_word (parts (row i)) 0 (values i) (row_fits (row i)) (Fit-values i h)) ∙ instruction-values i h
 
 -- reading the word of an instruction gives the instruction
 pub decoded-encoded : (i : Instr) → InRange i → decoded (encoded i) ≡ Some i
@@ -281,8 +199,8 @@ encoded-decoded_by r w i e = go (fields (parts r) w) refl e
     go : (o : Option (List ℕ)) → fields (parts r) w ≡ o → instruction_of r o ≡ Some i → InRange i × (row i ≡ r) × (word (parts (row i)) (values i) ≡ w)
     go None t f = cc
     go (Some xs) t f =
-        let back = word-fields (parts r) w xs t in
-        let reads = values-instruction r xs i (subst (λ ns. FitWidths ns xs) (field_widths-parts r) (FitWidths-Fit (parts r) xs back.0)) f in
+        let back = word-fields (parts r) 0 w xs t in
+        let reads = values-instruction r xs i (subst (λ ps. Fit ps xs) (places_of-parts r) back.0) f in
         let e : word (parts (row i)) (values i) ≡ word (parts r) xs = ap (λ z. word (parts z) (values i)) reads.1 ∙ ap (word (parts r)) reads.2 in
         (reads.0, reads.1, e ∙ back.1)
 
@@ -328,57 +246,44 @@ none_of_rows w h = go (decoded_among rows w) refl
 
 -- Words have 32 bits.
 
-abbrev pub total : List Part → ℕ
-total [] = 0
-total (Fixed n v ∷ ps) = n + total ps
-total (Field n ∷ ps) = n + total ps
-
-joined_lt : (x rest n k : ℕ) → x < 2 ^ n → rest < 2 ^ k → x + 2 ^ n * rest < 2 ^ (n + k)
+joined_lt : (x rest n k : ℕ) → x < 2 ^ n → rest < 2 ^ k → x + 2 ^ n * rest < 2 ^ (k + n)
 joined_lt x rest n k h f =
-    let e : 2 ^ (n + k) ≡ 2 ^ n * 2 ^ k = pow-add 2 n k in
+    let e : 2 ^ (k + n) ≡ 2 ^ k * 2 ^ n = pow-add 2 k n in
     let g : rest * 2 ^ n + x < 2 ^ n * 2 ^ k = mul-add-lt rest (2 ^ n) x (2 ^ k) f h in
     omega arith
 
-word-lt : (ps : List Part) (xs : List ℕ) → fixed_fit ps ≡ true → Fit ps xs → word ps xs < 2 ^ total ps
+word-lt : (ps : List Part) (low : ℕ) (xs : List ℕ) → fixed_fit ps ≡ true → Fit (places_of low ps) xs → word ps xs < 2 ^ total ps
 unfolding word
-word-lt [] [] f h = lit< tt
-word-lt [] (x ∷ xs) f h = absurd h
-word-lt (Fixed n v ∷ ps) xs f h = let a = and_parts _ _ f in joined_lt v (word ps xs) n (total ps) (ltb-true _ _ a.0) (word-lt ps xs a.1 h)
-word-lt (Field n ∷ ps) [] f h = absurd h
-word-lt (Field n ∷ ps) (x ∷ xs) f h = joined_lt x (word ps xs) n (total ps) h.0 (word-lt ps xs f h.1)
-
-total-parts : (r : Row) → total (parts r) ≡ 32
-total-parts (Row.MoveWide MoveWideOp.Movz) = refl
-total-parts (Row.SumImmediate SumImmediateOp.Add) = refl
-total-parts (Row.Sum SumOp.Add) = refl
-total-parts (Row.Logical LogicalOp.And) = refl
-total-parts (Row.MultiplyAdd MultiplyAddOp.Madd) = refl
-total-parts (Row.Divide DivideOp.Udiv) = refl
-total-parts (Row.Shift ShiftOp.Lslv) = refl
-total-parts (Row.Bitfield BitfieldOp.Sbfm) = refl
-total-parts (Row.LoadStore LoadStoreOp.Ldr) = refl
-total-parts (Row.LoadStoreWord LoadStoreWordOp.Ldrw) = refl
-total-parts (Row.LoadStoreHalf LoadStoreHalfOp.Ldrh) = refl
-total-parts (Row.LoadStoreByte LoadStoreByteOp.Ldrb) = refl
-total-parts (Row.LoadStoreUnscaled LoadStoreUnscaledOp.Ldur) = refl
-total-parts (Row.LoadStorePair LoadStorePairOp.Ldp) = refl
-total-parts (Row.Branch BranchOp.B) = refl
-total-parts (Row.CompareBranch CompareBranchOp.Cbz) = refl
-total-parts (Row.BranchRegister BranchRegisterOp.Br) = refl
-total-parts (Row.BranchAuthenticated BranchAuthenticatedOp.Braa) = refl
-total-parts (Row.Stack StackOp.Retab) = refl
-total-parts (Row.Sign SignOp.Pacia) = refl
-total-parts (Row.Authenticate AuthenticateOp.Autia) = refl
-total-parts (Row.Plain PlainOp.Paciza) = refl
-total-parts (Row.Exception ExceptionOp.Svc) = refl
-total-parts _ = refl
+word-lt [] low [] f h = lit< tt
+word-lt [] low (x ∷ xs) f h = absurd h
+word-lt (Fixed n v ∷ ps) low xs f h = let a = and_parts _ _ f in joined_lt v (word ps xs) n (total ps) (ltb-true _ _ a.0) (word-lt ps (low + n) xs a.1 h)
+word-lt (Field n ∷ ps) low [] f h = absurd h
+word-lt (Field n ∷ ps) low (x ∷ xs) f h = joined_lt x (word ps xs) n (total ps) h.0 (word-lt ps (low + n) xs f h.1)
 
 pub encoded-lt : (i : Instr) → InRange i → encoded i < 2 ^ 32
 unfolding encoded
-encoded-lt i h = subst (λ n. word (parts (row i)) (values i) < 2 ^ n) (total-parts (row i)) (word-lt (parts (row i)) (values i) (row_fits (row i)) (Fit-values i h))
+encoded-lt i h = subst (λ n. word (parts (row i)) (values i) < 2 ^ n) (total-parts (row i)) (word-lt (parts (row i)) 0 (values i) (row_fits (row i)) (Fit-values i h))
 
 -- what the code makes: the fields put into the fixed bits of the row
-pub encoded-puts : (i j : Instr) → i ≡ j → InRange i → with_values (parts (row j)) 0 (fixed (parts (row j))) (values j) ≡ encoded i
+pub encoded-puts : (i j : Instr) (base : ℕ) → InRange i → i ≡ j → base ≡ fixed (parts (row i)) → puts (line_places (row j)) base (values j) ≡ encoded i
 unfolding encoded
-encoded-puts i j e h =
-    word_from_puts (parts (row j)) (values j) (row_fits (row j)) (Fit-values j (subst InRange e h)) ∙ ap (λ z. word (parts (row z)) (values z)) (sym e)
+encoded-puts i j base h e f =
+    ap (λ z. puts (line_places (row z)) base (values z)) (sym e)
+    ∙ (ap (λ z. puts (line_places (row i)) z (values i)) f
+    ∙ (ap (λ z. puts z (fixed (parts (row i))) (values i)) (sym (places_of-parts (row i)))
+    ∙ word_from_puts (parts (row i)) (values i) (row_fits (row i)) (Fit-values i h)))
+
+pub then_put : (low n : ℕ) {p q w x y : ℕ} → p ≡ with_field low n q x → q ≡ w → x ≡ y → p ≡ with_field low n w y
+then_put low n {p} {q} {w} {x} {y} e f g = e ∙ (ap (λ z. with_field low n z x) f ∙ ap (with_field low n w) g)
+
+-- how a `bool` becomes a number
+pub bit_of-bool : (b : Bool) → bool_byte b ≡ bit_of b
+bit_of-bool false = refl
+bit_of-bool true = refl
+
+-- the two fields that hold the pages of `adrp`
+pub pages_above : (bits n : ℕ) → bits < 2 ^ 21 → bits ≡ n → field 2 19 bits ≡ n / 4
+pages_above bits n h e = let f : bits / 4 % 524288 ≡ bits / 4 = omega arith in f ∙ ap (λ z. z / 4) e
+
+pub pages_below : (bits n : ℕ) → bits ≡ n → field 0 2 bits ≡ n % 4
+pages_below bits n e = let f : bits / 1 % 4 ≡ bits % 4 = omega arith in f ∙ ap (λ z. z % 4) e

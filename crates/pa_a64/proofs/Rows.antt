@@ -1,5 +1,5 @@
 -- Rows and words: each word is of one row at most, and a row that a word is of is found.
-use Rattle.std.proofs.Common.{◌≡◌, ◌≢◌, ℕ, zero, suc, ◌+◌, ◌-◌, ◌*◌, ◌/◌, ◌%◌, ◌^◌, ◌<◌, ◌≤◌, ◌⊎◌, inl, inr, List, [], ◌∷◌, ◌++◌, refl, sym, ap, subst, ◌∙◌, arith, Option, Some, None, lit<}
+use Rattle.std.proofs.Common.{◌≡◌, ◌≢◌, ℕ, zero, suc, ◌+◌, ◌-◌, ◌*◌, ◌/◌, ◌%◌, ◌^◌, ◌<◌, ◌≤◌, ◌⊎◌, inl, inr, List, [], ◌∷◌, ◌++◌, refl, sym, ap, subst, ◌∙◌, arith, Option, Some, None, lit<, bit_and}
 use Rattle.std.specs.Prelude.{Bool, true, false, cond, not, ◌&&◌, ◌||◌, eqb, ltb}
 use Rattle.std.proofs.lemmas.Bool.{and_parts, eqb-true, eq-eqb, ne_eqb, true≢false}
 use Rattle.std.proofs.Math.Nat.{pow-suc, pow-succ', div-div-eq-div-mul}
@@ -31,9 +31,9 @@ use Rattle.pa_a64.specs.declared.instr.StackOp.{StackOp}
 use Rattle.pa_a64.specs.declared.instr.SumImmediateOp.{SumImmediateOp}
 use Rattle.pa_a64.specs.declared.instr.SumOp.{SumOp}
 use Rattle.pa_a64.specs.Decoding.{decoded, decoded_among, decoded_by, instruction, instruction_of, or_else}
-use Rattle.pa_a64.specs.Parts.{Part, Fixed, Field, fields, after}
+use Rattle.pa_a64.specs.Parts.{Part, Fixed, Field, fields, fixed, after}
 use Rattle.pa_a64.specs.Table.{Row, Adrp, SumImmediate, SubsImmediate, MoveWide, Bitfield, Logical, Sum, MultiplyAdd, Divide, Shift, Csinc, Pacga, Sign, Authenticate, Plain, LoadStore, LoadStoreWord, LoadStoreHalf, LoadStoreByte, LoadStoreUnscaled, LoadStorePair, Branch, BranchConditional, CompareBranch, Exception, Nop, Stack, BranchRegister, Blraaz, BranchAuthenticated, parts, rows, immediate_rows, register_rows, memory_rows, branch_rows}
-use Rattle.pa_a64.proofs.Words.{fixed, fixed_fit, cleared, values_at, fields-cleared, cleared-fields}
+use Rattle.pa_a64.proofs.Words.{Place, At, places_of, gets, fixed_fit, mask, total, fields-masked, masked-fields}
 
 -- a bit of a pattern
 pub data Bit : Type 0 where
@@ -254,6 +254,32 @@ fits_at (q ∷ rs) (suc i) r f e = fits_at rs i r (and_parts _ _ f).1 e
 pub row_fits : (r : Row) → fixed_fit (parts r) ≡ true
 row_fits r = fits_at rows (place r) r rows_fit (at_place r)
 
+pub total-parts : (r : Row) → total (parts r) ≡ 32
+total-parts (MoveWide MoveWideOp.Movz) = refl
+total-parts (SumImmediate SumImmediateOp.Add) = refl
+total-parts (Sum SumOp.Add) = refl
+total-parts (Logical LogicalOp.And) = refl
+total-parts (MultiplyAdd MultiplyAddOp.Madd) = refl
+total-parts (Divide DivideOp.Udiv) = refl
+total-parts (Shift ShiftOp.Lslv) = refl
+total-parts (Bitfield BitfieldOp.Sbfm) = refl
+total-parts (LoadStore LoadStoreOp.Ldr) = refl
+total-parts (LoadStoreWord LoadStoreWordOp.Ldrw) = refl
+total-parts (LoadStoreHalf LoadStoreHalfOp.Ldrh) = refl
+total-parts (LoadStoreByte LoadStoreByteOp.Ldrb) = refl
+total-parts (LoadStoreUnscaled LoadStoreUnscaledOp.Ldur) = refl
+total-parts (LoadStorePair LoadStorePairOp.Ldp) = refl
+total-parts (Branch BranchOp.B) = refl
+total-parts (CompareBranch CompareBranchOp.Cbz) = refl
+total-parts (BranchRegister BranchRegisterOp.Br) = refl
+total-parts (BranchAuthenticated BranchAuthenticatedOp.Braa) = refl
+total-parts (Stack StackOp.Retab) = refl
+total-parts (Sign SignOp.Pacia) = refl
+total-parts (Authenticate AuthenticateOp.Autia) = refl
+total-parts (Plain PlainOp.Paciza) = refl
+total-parts (Exception ExceptionOp.Svc) = refl
+total-parts _ = refl
+
 clash_at : (q : Row) (rs : List Row) (i : ℕ) (r : Row) → clash_with_all q rs ≡ true → row_at rs i ≡ Some r → clash (pattern_of (parts q)) (pattern_of (parts r)) ≡ true
 clash_at q [] i r f e = cc
 clash_at q (p ∷ rs) zero r f e = let same : p ≡ r = cc in subst (λ z. clash (pattern_of (parts q)) (pattern_of (parts z)) ≡ true) same (and_parts _ _ f).0
@@ -261,19 +287,80 @@ clash_at q (p ∷ rs) (suc i) r f e = clash_at q rs i r (and_parts _ _ f).1 e
 
 -- The word is of a row.
 
+-- the fields of a row, which don't hang on its operation
+abbrev pub line_places : Row → List Place
+line_places (MoveWide op) = At 0 5 ∷ At 5 16 ∷ At 21 2 ∷ []
+line_places (SumImmediate op) = At 0 5 ∷ At 5 5 ∷ At 10 12 ∷ At 22 1 ∷ []
+line_places SubsImmediate = At 0 5 ∷ At 5 5 ∷ At 10 12 ∷ At 22 1 ∷ []
+line_places (Sum op) = At 0 5 ∷ At 5 5 ∷ At 16 5 ∷ []
+line_places (Logical op) = At 0 5 ∷ At 5 5 ∷ At 16 5 ∷ []
+line_places (MultiplyAdd op) = At 0 5 ∷ At 5 5 ∷ At 10 5 ∷ At 16 5 ∷ []
+line_places (Divide op) = At 0 5 ∷ At 5 5 ∷ At 16 5 ∷ []
+line_places (Shift op) = At 0 5 ∷ At 5 5 ∷ At 16 5 ∷ []
+line_places (Bitfield op) = At 0 5 ∷ At 5 5 ∷ At 10 6 ∷ At 16 6 ∷ []
+line_places Csinc = At 0 5 ∷ At 5 5 ∷ At 12 4 ∷ At 16 5 ∷ []
+line_places Adrp = At 0 5 ∷ At 5 19 ∷ At 29 2 ∷ []
+line_places Nop = []
+line_places (LoadStore op) = At 0 5 ∷ At 5 5 ∷ At 10 12 ∷ []
+line_places (LoadStoreWord op) = At 0 5 ∷ At 5 5 ∷ At 10 12 ∷ []
+line_places (LoadStoreHalf op) = At 0 5 ∷ At 5 5 ∷ At 10 12 ∷ []
+line_places (LoadStoreByte op) = At 0 5 ∷ At 5 5 ∷ At 10 12 ∷ []
+line_places (LoadStoreUnscaled op) = At 0 5 ∷ At 5 5 ∷ At 12 9 ∷ []
+line_places (LoadStorePair op) = At 0 5 ∷ At 5 5 ∷ At 10 5 ∷ At 15 7 ∷ []
+line_places (Branch op) = At 0 26 ∷ []
+line_places BranchConditional = At 0 4 ∷ At 5 19 ∷ []
+line_places (CompareBranch op) = At 0 5 ∷ At 5 19 ∷ []
+line_places (BranchRegister op) = At 5 5 ∷ []
+line_places (BranchAuthenticated op) = At 0 5 ∷ At 5 5 ∷ []
+line_places Blraaz = At 5 5 ∷ []
+line_places (Stack op) = []
+line_places (Sign op) = At 0 5 ∷ At 5 5 ∷ []
+line_places (Authenticate op) = At 0 5 ∷ At 5 5 ∷ []
+line_places (Plain op) = At 0 5 ∷ []
+line_places Pacga = At 0 5 ∷ At 5 5 ∷ At 16 5 ∷ []
+line_places (Exception op) = At 5 16 ∷ []
+
+pub places_of-parts : (r : Row) → places_of 0 (parts r) ≡ line_places r
+places_of-parts (MoveWide MoveWideOp.Movz) = refl
+places_of-parts (SumImmediate SumImmediateOp.Add) = refl
+places_of-parts (Sum SumOp.Add) = refl
+places_of-parts (Logical LogicalOp.And) = refl
+places_of-parts (MultiplyAdd MultiplyAddOp.Madd) = refl
+places_of-parts (Divide DivideOp.Udiv) = refl
+places_of-parts (Shift ShiftOp.Lslv) = refl
+places_of-parts (Bitfield BitfieldOp.Sbfm) = refl
+places_of-parts (LoadStore LoadStoreOp.Ldr) = refl
+places_of-parts (LoadStoreWord LoadStoreWordOp.Ldrw) = refl
+places_of-parts (LoadStoreHalf LoadStoreHalfOp.Ldrh) = refl
+places_of-parts (LoadStoreByte LoadStoreByteOp.Ldrb) = refl
+places_of-parts (LoadStoreUnscaled LoadStoreUnscaledOp.Ldur) = refl
+places_of-parts (LoadStorePair LoadStorePairOp.Ldp) = refl
+places_of-parts (Branch BranchOp.B) = refl
+places_of-parts (CompareBranch CompareBranchOp.Cbz) = refl
+places_of-parts (BranchRegister BranchRegisterOp.Br) = refl
+places_of-parts (BranchAuthenticated BranchAuthenticatedOp.Braa) = refl
+places_of-parts (Stack StackOp.Retab) = refl
+places_of-parts (Sign SignOp.Pacia) = refl
+places_of-parts (Authenticate AuthenticateOp.Autia) = refl
+places_of-parts (Plain PlainOp.Paciza) = refl
+places_of-parts (Exception ExceptionOp.Svc) = refl
+places_of-parts _ = refl
+
+
 -- a word with a row's fixed bits is of that row
-pub by_row : (r : Row) (w : ℕ) → cleared (parts r) w ≡ fixed (parts r) → decoded_by r w ≡ instruction r (values_at (parts r) 0 w)
+pub by_row : (r : Row) (w : ℕ) → w < 2 ^ 32 → bit_and w (mask (parts r)) ≡ fixed (parts r) → decoded_by r w ≡ instruction r (gets (line_places r) w)
 unfolding decoded_by
-by_row r w e = ap (instruction_of r) (fields-cleared (parts r) w (row_fits r) e)
+by_row r w l e = ap (instruction_of r) (fields-masked (parts r) w (row_fits r) (subst (λ n. w < 2 ^ n) (sym (total-parts r)) l) e)
+    ∙ ap (λ z. instruction r (gets z w)) (places_of-parts r)
 
 -- and another word isn't
-pub not_by_row : (r : Row) (w : ℕ) → cleared (parts r) w ≢ fixed (parts r) → decoded_by r w ≡ None
+pub not_by_row : (r : Row) (w : ℕ) → bit_and w (mask (parts r)) ≢ fixed (parts r) → decoded_by r w ≡ None
 unfolding decoded_by
 not_by_row r w ne = go (fields (parts r) w) refl
   where
     go : (o : Option (List ℕ)) → fields (parts r) w ≡ o → instruction_of r o ≡ None
     go None e = refl
-    go (Some xs) e = absurd (ne (cleared-fields (parts r) w xs e))
+    go (Some xs) e = absurd (ne (masked-fields (parts r) w xs e))
 
 row_matches : (r : Row) (w : ℕ) (i : Instr) → decoded_by r w ≡ Some i → Matches (pattern_of (parts r)) w
 unfolding decoded_by
@@ -307,9 +394,12 @@ among_finds (q ∷ rs) (suc k) r w i d e h =
     missed : clash_with_all q rs ≡ true → decoded_by q w ≡ None
     missed c = clash_none q w (pattern_of (parts r)) (row_matches r w i h) (clash_at q rs k r c e)
 
--- what the code finds: the k-th row of a list
-pub found : (rs : List Row) (k : ℕ) (r : Row) (w : ℕ) (i : Instr) → distinct rs ≡ true → row_at rs k ≡ Some r → cleared (parts r) w ≡ fixed (parts r) → instruction r (values_at (parts r) 0 w) ≡ Some i → decoded_among rs w ≡ Some i
-found rs k r w i d at e f = among_finds rs k r w i d at (by_row r w e ∙ f)
+-- what the code finds: the k-th row of a list, whose fields it has got
+pub found : (rs : List Row) (k : ℕ) (r : Row) (w : ℕ) (xs : List ℕ) (i : Instr) → distinct rs ≡ true → row_at rs k ≡ Some r → w < 2 ^ 32 → bit_and w (mask (parts r)) ≡ fixed (parts r) → xs ≡ gets (line_places r) w → instruction r xs ≡ Some i → decoded_among rs w ≡ Some i
+found rs k r w xs i d at l e f g = among_finds rs k r w i d at (by_row r w l e ∙ (ap (instruction r) (sym f) ∙ g))
+
+pub next : {x y : ℕ} {xs ys : List ℕ} → x ≡ y → xs ≡ ys → (x ∷ xs) ≡ (y ∷ ys)
+next {x} {y} {xs} {ys} e f = ap (λ z. z ∷ xs) e ∙ ap (λ zs. y ∷ zs) f
 
 pub found_in_table : (r : Row) (w : ℕ) (i : Instr) → decoded_by r w ≡ Some i → decoded w ≡ Some i
 unfolding decoded

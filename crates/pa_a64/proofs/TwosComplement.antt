@@ -1,7 +1,9 @@
 -- Signed fields as two's complement of their width.
-use Rattle.std.proofs.Common.{◌≡◌, ℕ, suc, ◌+◌, ◌-◌, ◌*◌, ◌/◌, ◌%◌, ◌^◌, ◌<◌, ◌≤◌, ℤ, refl, sym, ap, ◌∙◌, arith, w64, to_z, of_z}
+use Rattle.std.proofs.Common.{◌≡◌, ℕ, suc, ◌+◌, ◌-◌, ◌*◌, ◌/◌, ◌%◌, ◌^◌, ◌<◌, ◌≤◌, ℤ, refl, sym, ap, ◌∙◌, arith, w32, w64, to_z, of_z, SFits}
 use Rattle.std.specs.Prelude.{Bool, true, false, cond, eqb, ltb, pos, negsuc}
 use Rattle.std.specs.Int.{bit_at}
+use mir.Syntax.{Width}
+use Rattle.std.proofs.lemmas.Int.{to_z-of_z}
 use Rattle.std.proofs.lemmas.Bool.{ltb-true, ltb-false, eq-eqb, ne_eqb, lt-ltb, le-ltb}
 use Rattle.std.proofs.lemmas.Nat.{pow_pos, pow-add, mod_low, shr_high}
 use Rattle.std.proofs.Math.Nat.{mod-eq_of_lt, pow-le-pow_right}
@@ -41,6 +43,9 @@ bits-signed length bits f = go (ltb bits (2 ^ (length - 1)))
 within_32 : (length : ℕ) → length ≤ 32 → 2 ^ length ≤ 2 ^ 32
 within_32 length h = pow-le-pow_right {n = 2} (omega arith) h
 
+half_within : (length : ℕ) → length ≤ 32 → 2 ^ (length - 1) ≤ 2 ^ 31
+half_within length h = pow-le-pow_right {n = 2} (omega arith) (let f : length - 1 ≤ 31 = omega arith in f)
+
 -- what the code's casts and masks give
 pub truncated-signed : (length : ℕ) (z : ℤ) → 1 ≤ length → length ≤ 32 → IsSigned length z → truncated (of_z w64 z) length ≡ bits_of_signed length z
 truncated-signed length (pos n) h l f = mod-eq_of_lt (bits_fit length (pos n) h f)
@@ -76,3 +81,14 @@ signed-extended length bits h l f = go (ltb bits (2 ^ (length - 1))) refl
         let high : 2 ^ 63 ≤ bits + (2 ^ 64 - 2 ^ length) = omega arith in
         rw (top, whole, le-ltb (bits + (2 ^ 64 - 2 ^ length)) (2 ^ 63) high)
         (let same : 2 ^ 64 - suc (bits + (2 ^ 64 - 2 ^ length)) ≡ 2 ^ length - suc bits = omega arith in ap negsuc same)
+
+pub SFits-signed : (length : ℕ) (z : ℤ) → length ≤ 32 → IsSigned length z → SFits w32 z
+SFits-signed length (pos n) l f = record { sfits = omega (arith, half_within length l) }
+SFits-signed length (negsuc n) l f = record { sfits = omega (arith, half_within length l) }
+
+-- a number that was passed on
+pub bits-passed : (w : Width) (length : ℕ) (z : ℤ) → SFits w z → bits_of_signed length (to_z w (of_z w z)) ≡ bits_of_signed length z
+bits-passed w length z f = ap (bits_of_signed length) (to_z-of_z w z f)
+
+pub bits-widened : (w : Width) (length : ℕ) (y z : ℤ) → SFits w z → SFits w32 y → y ≡ to_z w (of_z w z) → bits_of_signed length (to_z w32 (of_z w32 y)) ≡ bits_of_signed length z
+bits-widened w length y z f g e = bits-passed w32 length y g ∙ (ap (bits_of_signed length) e ∙ bits-passed w length z f)

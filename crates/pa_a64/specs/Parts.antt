@@ -12,6 +12,12 @@ word (Fixed width value ∷ parts) values = value + 2 ^ width * word parts value
 word (Field width ∷ parts) [] = 0
 word (Field width ∷ parts) (value ∷ values) = value + 2 ^ width * word parts values
 
+-- the word with zeros in its fields
+abbrev pub fixed : List Part → ℕ
+fixed [] = 0
+fixed (Fixed width value ∷ parts) = value + 2 ^ width * fixed parts
+fixed (Field width ∷ parts) = 2 ^ width * fixed parts
+
 abbrev pub after : ℕ → Option (List ℕ) → Option (List ℕ)
 after value None = None
 after value (Some values) = Some (value ∷ values)

@@ -1,9 +1,13 @@
 //! The A64 instructions of the machine: one table of rows, from words to instructions and back.
 #![tactic(auto)]
 
+mod encoding;
 mod instr;
-mod signed;
 
+mod signed;
+mod table;
+
+pub use encoding::{encode, in_range};
 pub use instr::{
     AuthenticateOp, BitfieldOp, BranchAuthenticatedOp, BranchOp, BranchRegisterOp, CompareBranchOp,
     DivideOp, ExceptionOp, Instr, LoadStoreByteOp, LoadStoreHalfOp, LoadStoreOp, LoadStorePairOp,

@@ -2,7 +2,10 @@
 #![tactic(auto)]
 
 mod page;
-mod report;
+mod reports;
+#[cfg(test)]
+mod tests;
 mod text;
 
 pub use page::Page;
+pub use reports::{Ran, report};

@@ -1,5 +1,5 @@
 -- How many of the listed calls have failed, one call after another.
-use Rattle.std.proofs.Common.{◌≡◌, ℕ, ◌+◌, ◌-◌, ◌*◌, ◌^◌, ◌<◌, ◌≤◌, min, nat_le, ◌==◌, ◌||◌, Bool, true, false, cond, List, [], ◌∷◌, arith, refl, get_or, Fits, w64, suc, ap, ◌∙◌, ⊎_elim}
+use Rattle.std.proofs.Common.{◌≡◌, ℕ, ◌+◌, ◌-◌, ◌^◌, ◌<◌, ◌≤◌, nat_le, true, false, cond, List, [], ◌∷◌, arith, refl, get_or, Fits, w64, suc, ap, sym, ◌∙◌, ⊎_elim}
 use Rattle.std.proofs.lemmas.Bool.{cases_lt}
 use Rattle.std.proofs.lemmas.Bool.Decides.{nat_tests}
 use Rattle.std.proofs.lemmas.List.Sums.{sum_by-cons}
@@ -16,7 +16,7 @@ failures-cons call fails calls = sum_by-cons (λ x. cond (nat_le x calls) 1 0) c
 
 -- a call that isn't listed changes nothing
 pub failures-stay : (fails : List ℕ) (calls : ℕ) → is_to_fail fails calls ≡ false → failures fails (calls + 1) ≡ failures fails calls
-failures-stay [] calls h = rw (failures-none, failures-none)
+failures-stay [] calls h = failures-none (calls + 1) ∙ sym (failures-none calls)
 failures-stay (call ∷ fails) calls h = grind (arith, nat_tests, failures-cons, failures-stay fails calls)
 
 failures-kept : (fails : List ℕ) (calls : ℕ) → failures fails calls ≤ failures fails (calls + 1)

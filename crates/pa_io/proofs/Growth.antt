@@ -1,7 +1,7 @@
 -- How what is told of a sink grows over several writes.
 use Rattle.std.proofs.Common.{◌≡◌, ℕ, ◌≤◌, ◌+◌, ◌-◌, List, [], ◌++◌, length, take, drop, Option, Some, None, arith, append_assoc, append-nil, length-append, sym, ◌∙◌, ap}
-use Rattle.std.proofs.Math.Seq.{take-append_seam}
-use Rattle.std.proofs.lemmas.List.{take-append-drop, take_rest}
+use Rattle.std.proofs.Math.Seq.{take-append_seam, take-append-add, take-length}
+use Rattle.std.proofs.lemmas.List.{take-append-drop, take-append-le, take_rest}
 use Rattle.pa_io.specs.Outside.{Grew, Stayed, GrewByPrefix}
 
 pub Grew-none : (a : Option (List ℕ)) → Grew a a []
@@ -37,7 +37,7 @@ Written-more a b c bytes rest n w g =
     rw take_rest (record {
       done = w.done ++ take n rest;
       parts = w.parts ∙ (ap (λ r. w.done ++ r) (sym (take-append-drop n rest)) ∙ sym (append_assoc w.done (take n rest) (drop n rest)));
-      grew = Grew-append a b c w.done (take n rest) w.grew g
+      grew = Grew-append a b c w.done (take n rest) w.grew g;
     })
 
 -- nothing more is written
@@ -47,3 +47,17 @@ Written-stayed a b c bytes rest w s = record { done = w.done; parts = w.parts; g
 pub Written-prefix : (a b : Option (List ℕ)) (bytes rest : List ℕ) → Written a b bytes rest → GrewByPrefix a b bytes
 Written-prefix a b bytes rest w =
     (length w.done, rw (w.parts, length-append) (omega arith), rw (w.parts, take-append_seam) w.grew)
+
+-- for a text that is written in several parts: all of one part
+pub GrewByPrefix-all : (a b : Option (List ℕ)) (xs : List ℕ) → Grew a b xs → GrewByPrefix a b xs
+GrewByPrefix-all a b xs g = (length xs, omega arith, rw take-length g)
+
+-- part of the first part
+pub GrewByPrefix-front : (a b : Option (List ℕ)) (xs ys : List ℕ) → GrewByPrefix a b xs → GrewByPrefix a b (xs ++ ys)
+GrewByPrefix-front a b xs ys p =
+    let within : p.0 ≤ length xs = p.1 in (p.0, rw length-append (omega arith), rw take-append-le p.2)
+
+-- a part, and then part of the next one
+pub GrewByPrefix-after : (a b c : Option (List ℕ)) (xs ys : List ℕ) → Grew a b xs → GrewByPrefix b c ys → GrewByPrefix a c (xs ++ ys)
+GrewByPrefix-after a b c xs ys g p =
+    (length xs + p.0, rw length-append (omega (arith, p.1)), rw take-append-add (Grew-append a b c xs (take p.0 ys) g p.2))

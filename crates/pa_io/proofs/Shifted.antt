@@ -1,7 +1,7 @@
 -- A list whose items move towards the front, one after another.
 use Rattle.std.proofs.Common.{◌≡◌, ℕ, ◌+◌, ◌-◌, ◌<◌, ◌≤◌, List, length, take, drop, get_or, arith}
-use Rattle.std.proofs.Math.ListN.{set, length-set}
-use Rattle.std.proofs.lemmas.List.{get_or-set_same, get_or-set_other, get_or-take, get_or-drop, ext_get_or, length-take, length-drop}
+use Rattle.std.proofs.Math.ListN.{set}
+use Rattle.std.proofs.lemmas.List.{ext_get_or, length-take, length-drop}
 use Rattle.std.proofs.lemmas.Grind.{common_steps}
 
 -- the items before `at` have come from `count` places behind
@@ -14,7 +14,7 @@ pub Shifted-more : (before now : List ℕ) (count at : ℕ) → at + count < len
 Shifted-more before now count at within s = record {
   same_length = grind (arith, common_steps);
   moved = λ k h. grind (arith, common_steps, s.moved k);
-  kept = λ k h. grind (arith, common_steps, s.kept k)
+  kept = λ k h. grind (arith, common_steps, s.kept k);
 }
 
 pub Shifted-all : (before now : List ℕ) (count : ℕ) → count ≤ length before → Shifted before now count (length before - count) → take (length before - count) now ≡ drop count before

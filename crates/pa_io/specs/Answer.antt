@@ -20,6 +20,7 @@ Gives (Err Failed) answer = answer ≡ Err Failed
 Gives (Err Long) answer = answer ≡ Err Long
 Gives (Err Memory) answer = ⊤
 
+-- for that one answer, or for all others
 abbrev pub OnMemory : {T : Type 0} → Result T ShelfFault → Type 0 → Type 0
 OnMemory (Ok answer) P = ⊤
 OnMemory (Err Failed) P = ⊤

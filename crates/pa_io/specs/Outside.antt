@@ -25,6 +25,7 @@ IsLonger (Holds all) limit = limit < length all
 abbrev pub Rose : ℕ → ℕ → Type 0
 Rose before now = (before ≤ now) × (min (before + 1) (2 ^ 64 - 1) ≤ now)
 
+-- for one answer of a shelf, or for all but one
 abbrev pub OnFailed : {T : Type 0} → Result T ShelfFault → Type 0 → Type 0
 OnFailed (Ok answer) P = ⊤
 OnFailed (Err Failed) P = P

@@ -11,11 +11,14 @@ use std::alloc::Global;
 /// A file in memory.
 #[derive(Debug, Drop)]
 pub struct MemFile {
+    /// The name by which a shelf is asked for it.
     pub name: Name,
+    /// All its bytes.
     pub bytes: Bytes,
 }
 
 impl MemFile {
+    /// The file of that name with these bytes.
     pub fn new(name: Name, bytes: Bytes) -> MemFile
         ensures { result ≡ record { name = name; bytes = bytes } }
     {
@@ -41,7 +44,11 @@ pub(crate) fn find_file<'a>(files: &'a [MemFile], name: &[u8]) -> Option<&'a [u8
 }
 
 /// A copy of the whole file, where there is one of at most `limit` bytes.
-pub(crate) fn copy_file(alloc: Global, file: Option<&[u8]>, limit: u64) -> Result<Vec<u8>, ShelfFault>
+pub(crate) fn copy_file(
+    alloc: Global,
+    file: Option<&[u8]>,
+    limit: u64,
+) -> Result<Vec<u8>, ShelfFault>
     ensures { Gives result (file_answer (option_copied file.entry) limit) }
 {
     let bytes = file.ok_or(ShelfFault::Failed)?;

@@ -10,9 +10,11 @@ use std::alloc::Global;
 /// A shelf of files in memory, whose listed calls fail. A call that answers `Memory` isn't counted.
 #[derive(Debug, Drop)]
 pub struct MemShelf {
+    /// All the files that it has. Another name is missing.
     pub files: MemFiles,
     /// The calls so far.
     pub calls: u64,
+    /// The calls that fail, from 1, ascending.
     pub fails: Calls,
     /// The calls so far that asked for a name without a file.
     pub missing: u64,
@@ -21,7 +23,14 @@ pub struct MemShelf {
 }
 
 impl MemShelf {
-    pub fn new(files: MemFiles, calls: u64, fails: Calls, missing: u64, failed: Option<Name>) -> MemShelf
+    /// A shelf of these files, with its counts and its failed name as they stand.
+    pub fn new(
+        files: MemFiles,
+        calls: u64,
+        fails: Calls,
+        missing: u64,
+        failed: Option<Name>,
+    ) -> MemShelf
         ensures { result ≡ record { files = files; calls = calls; fails = fails; missing = missing; failed = failed } }
     {
         MemShelf {
@@ -55,9 +64,9 @@ impl Shelf for MemShelf {
         ensures counted { UnlessMemory result (self.new.calls ≡ next_count self.old.calls) }
         ensures missing { UnlessMemory result (self.new.missing ≡
             (if is_to_fail self.old.fails self.old.calls || is_some (file_of self.old.files name.now)
-             then self.old.missing else next_count self.old.missing)) }
+            then self.old.missing else next_count self.old.missing)) }
         ensures memory { OnMemory result (self.new ≡ self.old) }
-        ensures kept { (self.new.files ≡ self.old.files) × (self.new.fails ≡ self.old.fails) }
+        ensures same { (self.new.files ≡ self.old.files) × (self.new.fails ≡ self.old.fails) }
 
         // What every shelf says.
         ensures whole { IfOk result (λ bytes. IsFile (tells self.old.files name.now) bytes.items) }
@@ -88,13 +97,16 @@ impl Shelf for MemShelf {
 /// A source of bytes in memory, whose listed calls fail.
 #[derive(Debug, Drop)]
 pub struct MemSource {
+    /// The bytes that are left.
     pub left: Bytes,
     /// The calls so far.
     pub calls: u64,
+    /// The calls that fail, from 1, ascending.
     pub fails: Calls,
 }
 
 impl MemSource {
+    /// A source of these bytes, with its count of calls as it stands.
     pub fn new(left: Bytes, calls: u64, fails: Calls) -> MemSource
         ensures { result ≡ record { left = left; calls = calls; fails = fails } }
     {
@@ -135,11 +147,13 @@ impl Source for MemSource {
 /// A sink of bytes in memory, whose listed calls fail.
 #[derive(Debug, Drop)]
 pub struct MemSink {
+    /// The bytes that were written.
     pub written: Bytes,
-    /// The greatest number of bytes that one call takes.
+    /// The greatest number of bytes that one call takes, at least 1.
     pub most: u64,
     /// The calls so far.
     pub calls: u64,
+    /// The calls that fail, from 1, ascending.
     pub fails: Calls,
     /// The calls so far that failed because there was no memory to grow.
     pub refused: u64,
@@ -147,6 +161,7 @@ pub struct MemSink {
 }
 
 impl MemSink {
+    /// A sink after these bytes, with its counts as they stand.
     pub fn new(written: Bytes, most: u64, calls: u64, fails: Calls, refused: u64) -> MemSink
         requires { 0 < most }
         ensures written { result.written ≡ written }

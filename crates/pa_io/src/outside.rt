@@ -35,7 +35,7 @@ impl From<AllocError> for ShelfFault {
 #[error("the reading or writing failed")]
 pub struct Failed;
 
-/// Files by name.
+/// Files by name. The shelf counts its faults, and keeps the name of the last one; the count never falls.
 pub trait Shelf {
     // The count of faults so far.
     ghost faults: { Self → ℕ };
@@ -46,7 +46,8 @@ pub trait Shelf {
     // What the shelf tells of each name.
     ghost told: { Self → List ℕ → Told };
 
-    /// All the bytes of the file of that name, which are at most `limit`.
+    /// All the bytes of the file of that name, at most `limit` of them. It is `Long` where the file has more, `Failed` where
+    /// there is none or it can't be read, and `Memory` for want of memory.
     fn read(&mut self, alloc: Global, name: &str, limit: u64) -> Result<Vec<u8>, ShelfFault>
         ensures whole { IfOk result (λ bytes. IsFile (told self.old name.now) bytes.items) }
         ensures within { IfOk result (λ bytes. vec_len bytes ≤ limit) }
@@ -58,7 +59,7 @@ pub trait Shelf {
         ensures others { UnlessFailed result ((faults self.new ≡ faults self.old) × (failed self.new ≡ failed self.old)) };
 }
 
-/// Bytes that come one piece after another.
+/// Bytes that come one piece after another. The source counts its faults; the count never falls.
 pub trait Source {
     // The count of faults so far.
     ghost faults: { Self → ℕ };
@@ -78,7 +79,7 @@ pub trait Source {
         ensures others { OnOk result (faults self.new ≡ faults self.old) };
 }
 
-/// Takes bytes one piece after another.
+/// Takes bytes one piece after another. The sink counts its faults; the count never falls.
 pub trait Sink {
     // The count of faults so far.
     ghost faults: { Self → ℕ };

@@ -1,4 +1,5 @@
-ghost use Rattle.std.specs.Prelude.{◌≡◌, ◌<◌, ◌≤◌, length, IfOk, IfSome, vec_len};
+ghost use Rattle.std.specs.Prelude.{◌≡◌, ◌<◌, ◌≤◌, length, take, drop, IfOk, IfSome, vec_len};
+ghost use Rattle.std.specs.Io.KnownBytes.{Consumes, IsAtEnd};
 ghost use Rattle.pa_io.specs.Outside.{OnLong};
 
 use crate::outside::{Failed, Shelf, ShelfFault, Sink, Source};
@@ -23,6 +24,7 @@ pub struct DiskShelf {
 impl DiskShelf {
     ghost use Rattle.std.specs.Prelude.{None};
 
+    /// The disk, without a fault so far.
     pub fn new(rt: HostRuntime) -> DiskShelf
         ensures { (result.faults ≡ 0) × (result.failed ≡ None) }
     {
@@ -57,7 +59,8 @@ impl Shelf for DiskShelf {
     }
 }
 
-/// All the bytes up to the end, where they are at most `limit`. Each turn takes a byte at least, or is the last one.
+/// All the bytes up to the end, where they are at most `limit`. Each turn but the last takes a byte at least, so there are
+/// at most `limit` + 1 turns.
 fn read_to_end<R: Read>(alloc: Global, file: &mut R, limit: u64) -> Result<Vec<u8>, ShelfFault>
     ensures whole { IfOk result (λ bytes. IfSome (R.remaining file.old) (λ all. bytes.items ≡ all)) }
     ensures within { IfOk result (λ bytes. vec_len bytes ≤ limit) }
@@ -79,6 +82,20 @@ fn read_to_end<R: Read>(alloc: Global, file: &mut R, limit: u64) -> Result<Vec<u
     }
 }
 
+/// Puts the reader's next bytes at the buffer's front, and answers how many.
+fn read_piece<R: Read>(input: &mut R, buffer: &mut [u8]) -> Result<usize, Failed>
+    ensures within { IfOk result (λ n. n ≤ length buffer.old) }
+    ensures next { IfOk result (λ n. Consumes (R.remaining input.old) (R.remaining input.new) (take n buffer.new)) }
+    ensures rest { IfOk result (λ n. drop n buffer.new ≡ drop n buffer.old) }
+    ensures end { IfOk result (λ n. n ≡ 0 → 0 < length buffer.old → IsAtEnd (R.remaining input.new)) }
+{
+    let mut piece = [0; PIECE];
+    let most = buffer.len().min(PIECE);
+    let count = input.read(&mut piece[..most]).map_err(|_| Failed)?;
+    buffer[..count].copy_from_slice(&piece[..count]);
+    Ok(count)
+}
+
 /// Standard input. Nothing is told of its bytes.
 #[derive(Debug, Drop)]
 pub struct StdinSource {
@@ -88,6 +105,7 @@ pub struct StdinSource {
 }
 
 impl StdinSource {
+    /// Standard input, without a fault so far.
     pub fn new(rt: HostRuntime) -> StdinSource
         ensures { result.faults ≡ 0 }
     {
@@ -106,18 +124,11 @@ impl Source for StdinSource {
     ghost left = { λ _. None };
 
     fn read(&mut self, buffer: &mut [u8]) -> Result<usize, Failed> {
-        let mut piece = [0; PIECE];
-        let most = buffer.len().min(PIECE);
-        match self.input.read(&mut piece[..most]) {
-            Ok(count) => {
-                buffer[..count].copy_from_slice(&piece[..count]);
-                Ok(count)
-            }
-            Err(_) => {
-                self.faults = self.faults.saturating_add(1);
-                Err(Failed)
-            }
+        let answer = read_piece(&mut self.input, buffer);
+        if answer.is_err() {
+            self.faults = self.faults.saturating_add(1);
         }
+        answer
     }
 }
 
@@ -130,6 +141,7 @@ pub struct StdoutSink {
 }
 
 impl StdoutSink {
+    /// Standard output, without a fault so far.
     pub fn new(rt: HostRuntime) -> StdoutSink
         ensures { result.faults ≡ 0 }
     {

@@ -9,10 +9,12 @@ use std::alloc::Global;
 /// A shelf of files in memory that never fails: a name that isn't there is that of the empty file.
 #[derive(Debug, Drop)]
 pub struct SureShelf {
+    /// The files that aren't empty, and maybe others.
     pub files: MemFiles,
 }
 
 impl SureShelf {
+    /// A shelf of these files.
     pub fn new(files: MemFiles) -> SureShelf
         ensures { result ≡ record { files = files } }
     {
@@ -40,10 +42,12 @@ impl Shelf for SureShelf {
 /// A source of bytes in memory that never fails.
 #[derive(Debug, Drop)]
 pub struct SureSource {
+    /// The bytes that are left.
     pub left: Bytes,
 }
 
 impl SureSource {
+    /// A source of these bytes.
     pub fn new(left: Bytes) -> SureSource
         ensures { result ≡ record { left = left } }
     {
@@ -71,12 +75,14 @@ impl Source for SureSource {
 /// then on it takes all bytes and tells nothing.
 #[derive(Debug, Drop)]
 pub struct SureSink {
+    /// The bytes that were written, up to the first that were lost.
     pub written: Bytes,
-    /// Bytes were lost.
+    /// Whether bytes were lost.
     pub lost: bool,
 }
 
 impl SureSink {
+    /// A sink after these bytes.
     pub fn new(written: Bytes, lost: bool) -> SureSink
         ensures { result ≡ record { written = written; lost = lost } }
     {

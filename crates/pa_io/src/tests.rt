@@ -4,6 +4,7 @@ use crate::{
 };
 use pa_num::{Bytes, Name};
 use std::alloc::{AllocError, Global};
+use std::fs;
 use std::process::Abort;
 use std::test::Fail;
 
@@ -120,15 +121,17 @@ fn a_sure_sink_takes_all(rt: HostRuntime) {
 }
 
 #[test]
-fn the_disk_has_devices(rt: HostRuntime) -> Result<(), Fail> {
+fn the_disk_gives_a_file(rt: HostRuntime) -> Result<(), Fail> {
+    fs::write(&rt, "one.txt", "one")?;
     let mut shelf = DiskShelf::new(rt);
     let rows: [Row; 4] = [
-        ("/no/such/file", 5000, Err(ShelfFault::Failed)),
-        ("/dev/null", 0, Ok(b"")),
-        ("/dev/zero", 5000, Err(ShelfFault::Long)),
-        ("/", 5000, Err(ShelfFault::Failed)),
+        ("no/such/file", 3, Err(ShelfFault::Failed)),
+        ("one.txt", 3, Ok(b"one")),
+        ("one.txt", 2, Err(ShelfFault::Long)),
+        ("/", 3, Err(ShelfFault::Failed)),
     ];
     reads(&rt, rt.alloc(), &mut shelf, &rows);
+    fs::remove_file(&rt, "one.txt")?;
     assert_eq!(rt; shelf.faults, 2);
     let failed = shelf.failed.ok_or("a name")?;
     assert_eq!(rt; failed.as_slice(), b"/".as_slice());

@@ -58,3 +58,36 @@ no_nil xs b e h z = grind (arith, nat_tests)
 
 pub is_no_nil : (xs : List ℕ) (b : Bool) → b ≡ (length xs == 0) → b ≡ false → xs ≢ []
 is_no_nil xs b e h z = no_nil xs b e h (ap length z)
+
+-- the first element fails, or there is none
+abbrev pub StopsRun : (ℕ → Bool) → List ℕ → Type 0
+StopsRun p [] = Unit {0}
+StopsRun p (x ∷ xs) = p x ≡ false
+
+run_ends : (p : ℕ → Bool) (q : List ℕ) → StopsRun p q → prefix_len p q ≡ 0
+run_ends p [] h = refl
+run_ends p (x ∷ q) h = rw h refl
+
+-- the run is what passes before the first element that fails
+pub run_is : (p : ℕ → Bool) (s q : List ℕ) → list_all p s ≡ true → StopsRun p q → prefix_len p (s ++ q) ≡ length s
+run_is p [] q h e = run_ends p q e
+run_is p (x ∷ s) q h e = let b = both_true (p x) (list_all p s) h in let i = run_is p s q b.1 e in rw (b.0, i) (one-add (length s))
+
+pub front_is : (p : ℕ → Bool) (s q : List ℕ) → list_all p s ≡ true → StopsRun p q → take (prefix_len p (s ++ q)) (s ++ q) ≡ s
+front_is p s q h e = rw (run_is p s q h e) (take-append_seam s q)
+
+run_stops_by : (p : ℕ → Bool) (x : ℕ) (xs : List ℕ) (b : Bool) → p x ≡ b → StopsRun p (drop (prefix_len p xs) xs) → StopsRun p (drop (cond b (1 + prefix_len p xs) 0) (x ∷ xs))
+run_stops_by p x xs true e h = rw one-add h
+run_stops_by p x xs false e h = e
+
+-- behind the run it stops
+pub run_stops : (p : ℕ → Bool) (xs : List ℕ) → StopsRun p (drop (prefix_len p xs) xs)
+run_stops p [] = tt
+run_stops p (x ∷ xs) = run_stops_by p x xs (p x) refl (run_stops p xs)
+
+unequal : (c d : ℕ) → (c == d) ≡ false → c ≡ d → ⊥
+unequal c d h e = grind (arith, nat_tests)
+
+-- two texts with different first bytes are two
+pub differ : (c d : ℕ) {t u : List ℕ} → (c == d) ≡ false → c ∷ t ≡ d ∷ u → ⊥
+differ c d h e = unequal c d h (heads e)

@@ -1,5 +1,6 @@
 pub mod Bytes
 pub mod Forms
+pub mod Inside
 pub mod Lexes
 pub mod Literals
 pub mod Reading

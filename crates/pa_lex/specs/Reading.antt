@@ -22,7 +22,7 @@ use Rattle.pa_lex.specs.declared.token.Kind.{Kind}
 use Rattle.pa_lex.specs.declared.token.Token.{Token}
 use Rattle.pa_lex.specs.declared.token.LexRule.{LexRule}
 use Rattle.pa_lex.specs.Forms.{Form, Word, Number, Quoted, Mark, Line, quote_byte, form_text, Means}
-use Rattle.pa_lex.specs.Lexes.{Separator, White, BlockComment, LineComment, separator_text, Cursor, moved, Gap, IsTokenAt, Breaks}
+use Rattle.pa_lex.specs.Lexes.{Separator, White, BlockComment, LineComment, separator_text, Cursor, opens_comment, moved, Gap, IsTokenAt, Breaks}
 
 -- what a byte can begin
 abbrev pub class_of : ℕ → Class
@@ -192,6 +192,10 @@ passed n cursor = moved (take n cursor.ahead) cursor (drop n cursor.ahead)
 pub record Skips (old new : Cursor) : Type 0 where
   pub gap : (gap : List Separator) × Gap gap old new
   pub stops : separator_at new.ahead ≡ None
+
+-- the longest form at a place where no separator begins
+abbrev pub form_here : Cursor → Option Form
+form_here cursor = if opens_comment cursor.ahead then None else form_at cursor.first cursor.ahead
 
 -- what a form is, if it means something
 abbrev pub IsKind : Form → Option Kind → Type 0

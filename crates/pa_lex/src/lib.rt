@@ -4,9 +4,14 @@
 mod byte;
 mod form;
 mod kind;
+mod lexer;
 mod literal;
 mod reader;
 mod table;
 mod token;
 
+pub use lexer::lex;
 pub use token::{Include, Keyword, Kind, LexRule, Punct, Token, Tokens};
+
+#[cfg(test)]
+mod tests;

@@ -2,6 +2,7 @@
 -- pseudocode: AddWithCarry, the shifts, and division towards zero).
 use Rattle.std.specs.Prelude.{ℕ, ◌+◌, ◌-◌, ◌*◌, ◌/◌, ◌%◌, ◌^◌, Bool, true, false, not, ◌==◌, ◌&&◌, nat_le, nat_lt, if◌then◌else◌, ℤ, pos, negsuc, int_div, suc}
 use Rattle.std.specs.Int.{w64, cast_signed, cast_unsigned}
+use Rattle.pa_num.specs.Bits.{with_field}
 
 -- what is left of a number in 64 bits
 unfoldable pub wrap : ℕ → ℕ
@@ -55,4 +56,4 @@ asr64 x amount = if is_negative64 x then not64 (not64 x / 2 ^ (amount % 64)) els
 
 -- one 16-bit part of a number replaced
 unfoldable pub with_part : ℕ → ℕ → ℕ → ℕ
-with_part x at part = x - x % 2 ^ (16 * (at + 1)) + part * 2 ^ (16 * at) + x % 2 ^ (16 * at)
+with_part x at part = with_field (16 * at) 16 x part

@@ -1,3 +1,5 @@
 pub mod Placed
 pub mod Steps
+pub mod StepsLeads
 pub mod StepsRun
+pub mod Growth

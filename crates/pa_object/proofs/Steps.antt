@@ -1,11 +1,10 @@
 -- What each instruction does, one lemma for a row, and how instructions follow each other.
-use Rattle.std.proofs.Common.{◌≡◌, ◌≢◌, ℕ, zero, suc, ◌+◌, ◌-◌, ◌*◌, ◌/◌, ◌%◌, ◌^◌, ◌<◌, ◌≤◌, Bool, true, false, cond, eqb, ltb, List, [], ◌∷◌, ◌++◌, length, get_or, set, refl, sym, ap, subst, ◌∙◌, arith, Option, Some, None, ◌⊎◌, inl, inr, get_or-set_same, get_or-set_other}
+use Rattle.std.proofs.Common.{◌≡◌, ◌≢◌, ℕ, suc, ◌+◌, ◌-◌, ◌*◌, ◌%◌, ◌^◌, ◌<◌, ◌≤◌, true, false, cond, eqb, ltb, List, [], ◌∷◌, ◌++◌, length, get_or, set, refl, ap, ◌∙◌, arith, Some, None, ◌⊎◌, inl, inr, get_or-set_same, get_or-set_other}
 use Rattle.std.specs.Prelude.{ℤ, pos, ◌&&◌}
 use Rattle.std.specs.Int.{w32, cast_signed}
 use Rattle.std.proofs.lemmas.List.{set_past}
 use Rattle.std.proofs.lemmas.Bool.{cases_eq, cases_lt, eq-eqb, ne_eqb, lt-ltb, le-ltb}
 use Rattle.pa_num.specs.Arithmetic.{wrap, add64, sub64, scaled64, with_part}
-use Rattle.pa_pac.specs.declared.key.Key.{Key}
 use Rattle.pa_pac.specs.declared.key.Key.TheVariants.{IB}
 use Rattle.pa_pac.specs.declared.event.Way.TheVariants as way
 use Rattle.pa_pac.specs.declared.event.Event.TheVariants as event
@@ -20,15 +19,12 @@ use Rattle.pa_a64.specs.declared.instr.LoadStorePairOp.TheVariants.{Ldp, Stp}
 use Rattle.pa_a64.specs.declared.instr.BranchOp.TheVariants.{Bl}
 use Rattle.pa_a64.specs.declared.instr.StackOp.TheVariants.{Retab, Pacibsp}
 use Rattle.pa_a64.specs.declared.instr.ExceptionOp.TheVariants.{Svc}
-use Rattle.pa_a64.specs.Decoding.{decoded}
-use Rattle.pa_mem.specs.Memory.{Region, Read, Write, allowed, load, store, fetch}
+use Rattle.pa_mem.specs.Memory.{Read, Write, allowed, load, store, fetch}
 use Rattle.pa_object.specs.declared.end.End.TheVariants.{Exit}
-use Rattle.pa_object.specs.declared.end.End.{End}
-use Rattle.pa_object.specs.declared.end.Trap.{Trap}
 use Rattle.pa_object.specs.Machine.{Machine}
 use Rattle.pa_object.specs.Traps.{trap_of}
 use Rattle.pa_object.specs.Effects.{effect}
-use Rattle.pa_object.specs.Run.{step, on_word, on_instr, unless_trap, unless_ended, advance, advance_by, applied_all, Place, Watched, trailed, placed, watched_once, watched}
+use Rattle.pa_object.specs.Run.{step, on_word, on_instr, unless_trap, unless_ended, advance, applied_all, Place, Watched, trailed, placed, watched_once, watched}
 use Rattle.pa_object.proofs.Placed.{Stands}
 
 -- ---- numbers of 64 bits

@@ -1,6 +1,5 @@
 -- Runs in parts, and what stays when they go on.
-use Rattle.std.proofs.Common.{◌≡◌, ◌≢◌, ℕ, zero, suc, ◌+◌, ◌-◌, ◌<◌, ◌≤◌, Bool, true, false, cond, eqb, List, [], ◌∷◌, ◌++◌, length, refl, sym, ap, subst, ◌∙◌, arith, Option, Some, None, zero-add, if◌then◌else◌}
-use Rattle.std.specs.Prelude.{◌&&◌, ◌||◌}
+use Rattle.std.proofs.Common.{◌≡◌, ◌≢◌, ℕ, zero, suc, ◌+◌, ◌<◌, ◌≤◌, Bool, true, cond, List, [], ◌∷◌, ◌++◌, length, refl, sym, ap, ◌∙◌, arith, Some, zero-add, if◌then◌else◌}
 use Rattle.std.proofs.lemmas.Bool.{eq-eqb, ne_eqb, or_left, or_right, and_from}
 use Rattle.std.proofs.lemmas.List.{length-append, append_assoc}
 use Rattle.pa_pac.specs.Key.{key_number, same_key}
@@ -13,12 +12,12 @@ use Rattle.pa_pac.specs.declared.event.Way.TheVariants as way
 use Rattle.pa_pac.specs.declared.event.When.{When}
 use Rattle.pa_pac.specs.declared.event.When.TheVariants as moment
 use Rattle.pa_pac.specs.declared.event.Entry.{Entry}
-use Rattle.pa_pac.specs.Log.{Log, is_sign, is_known}
+use Rattle.pa_pac.specs.Log.{Log, is_known}
 use Rattle.pa_pac.specs.Signing.{Code}
 use Rattle.pa_object.specs.declared.end.End.{End}
 use Rattle.pa_object.specs.Machine.{Machine}
 use Rattle.pa_object.specs.Run.{step, unless_ended, advance, advance_by, applied_all, Script, Place, Watched, trailed, placed, watched_once, watched}
-use Rattle.pa_object.specs.Shape.{Shown, Enter, place_of, shown_by, shape, all_known}
+use Rattle.pa_object.specs.Shape.{Enter, place_of, shown_by, shape, all_known}
 use Rattle.pa_object.proofs.Steps.{watching}
 
 -- ---- runs in parts
@@ -131,16 +130,23 @@ pub all_known-return : (first second : When) (key : Key) (modifier raw target : 
 unfolding all_known
 all_known-return first second key modifier raw target known log e h = and_from _ _ e h
 
--- a function that was entered and left again shows that it was entered
+-- a function that was entered shows that
+pub shape-entered : (got : List ℕ) (front : List Place) (entry : Place) (middle trail : List Place) (number modifier raw signed : ℕ) (log : Log)
+    → number ≡ length (middle ++ trail) → AreBefore (length trail) log
+    → shape got (front ++ entry ∷ (middle ++ trail)) (record { when = moment.Step number; event = event.Sign IB modifier raw signed } ∷ log) ≡ Enter entry.at ∷ shape got trail log
+shape-entered got front entry middle trail number modifier raw signed log e h =
+    let longer = front ++ entry ∷ (middle ++ trail) in
+    let parts : front ++ entry ∷ (middle ++ trail) ≡ (front ++ entry ∷ middle) ++ trail = sym (append_assoc front (entry ∷ middle) trail) in
+    let earlier : shape got longer log ≡ shape got trail log = ap (λ x. shape got x log) parts ∙ shape-more got (front ++ entry ∷ middle) trail log h in
+    shape-enter got longer number modifier raw signed log
+    ∙ ap (λ at. Enter at ∷ shape got longer log) (place_of-here front entry (middle ++ trail) number e)
+    ∙ ap (λ x. Enter entry.at ∷ x) earlier
+
+-- and no more when it is left again
 pub shape-called : (got : List ℕ) (front : List Place) (entry : Place) (middle trail : List Place) (number modifier raw signed : ℕ) (first second : When) (target : ℕ) (known : Bool) (log : Log)
     → number ≡ length (middle ++ trail) → AreBefore (length trail) log
     → shape got (front ++ entry ∷ (middle ++ trail)) (record { when = first; event = event.Land way.Return target } ∷ record { when = second; event = event.Take IB modifier raw known } ∷ record { when = moment.Step number; event = event.Sign IB modifier raw signed } ∷ log)
         ≡ Enter entry.at ∷ shape got trail log
 shape-called got front entry middle trail number modifier raw signed first second target known log e h =
-    let longer = front ++ entry ∷ (middle ++ trail) in
-    let parts : front ++ entry ∷ (middle ++ trail) ≡ (front ++ entry ∷ middle) ++ trail = sym (append_assoc front (entry ∷ middle) trail) in
-    let earlier : shape got longer log ≡ shape got trail log = ap (λ x. shape got x log) parts ∙ shape-more got (front ++ entry ∷ middle) trail log h in
-    shape-return got longer first second modifier raw target known _
-    ∙ shape-enter got longer number modifier raw signed log
-    ∙ ap (λ at. Enter at ∷ shape got longer log) (place_of-here front entry (middle ++ trail) number e)
-    ∙ ap (λ x. Enter entry.at ∷ x) earlier
+    shape-return got (front ++ entry ∷ (middle ++ trail)) first second modifier raw target known _
+    ∙ shape-entered got front entry middle trail number modifier raw signed log e h

@@ -1,5 +1,5 @@
 -- The machine's state, and how instructions read and change it.
-use Rattle.std.specs.Prelude.{ℕ, suc, ◌+◌, ◌%◌, ◌^◌, List, [], ◌∷◌, slice_index, slice_set, Bool, true, false, not, ◌&&◌, ◌||◌, ◌==◌, nat_le, if◌then◌else◌, Option, Some, None}
+use Rattle.std.specs.Prelude.{ℕ, suc, ◌+◌, ◌%◌, ◌^◌, List, [], ◌∷◌, replicate, slice_index, slice_set, Bool, true, false, not, ◌&&◌, ◌||◌, ◌==◌, nat_le, if◌then◌else◌, Option, Some, None}
 use Rattle.pa_num.specs.Arithmetic.{add64, sub64, is_negative64}
 use Rattle.pa_pac.specs.declared.key.Key.{Key}
 use Rattle.pa_pac.specs.declared.event.Way.{Way}
@@ -9,13 +9,7 @@ use Rattle.pa_pac.specs.declared.event.When.TheVariants.{Step}
 use Rattle.pa_pac.specs.Log.{Log, is_known}
 use Rattle.pa_mem.specs.Memory.{Region}
 use Rattle.pa_object.specs.declared.end.End.{End}
-
--- negative, zero, carry and overflow of the last `subs`
-pub record Flags : Type 0 where
-  pub negative : Bool
-  pub zero : Bool
-  pub carry : Bool
-  pub overflow : Bool
+use Rattle.pa_object.specs.declared.flags.Flags.{Flags}
 
 -- registers x0 to x30, the stack pointer, the flags, memory, the place of the next instruction, the count of those that
 -- ran, what is left of the input, the output, the log with its newest entry first, and the end if it has come
@@ -30,6 +24,21 @@ pub record Machine : Type 0 where
   pub output : List ℕ
   pub log : Log
   pub ended : Option End
+
+-- a machine before its first instruction: zeros in all registers and flags, and the whole input left
+abbrev pub begun : (memory : List Region) (log : Log) (pc sp : ℕ) (input : List ℕ) → Machine
+begun memory log pc sp input = record {
+    registers = replicate 31 0;
+    sp = sp;
+    flags = record { negative = false; zero = false; carry = false; overflow = false };
+    memory = memory;
+    pc = pc;
+    count = 0;
+    input = input;
+    output = [];
+    log = log;
+    ended = None;
+  }
 
 -- a register, where 31 is the zero register
 abbrev pub register : ℕ → Machine → ℕ

@@ -2,7 +2,9 @@
 #![tactic(auto)]
 
 mod end;
+mod flags;
 mod script;
 
 pub use end::{End, Trap};
+pub use flags::Flags;
 pub use script::{Deed, Item, Items};

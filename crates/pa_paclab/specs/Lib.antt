@@ -1,3 +1,4 @@
+pub mod Answers
 pub mod Exit
 pub mod Lines
 pub mod Words

@@ -1,3 +1,5 @@
+use pa_num::Memory;
+
 /// A rule of the command line.
 #[derive(Clone, Copy, Debug, PartialEq, Eq)]
 pub enum UseFault {
@@ -69,5 +71,27 @@ impl Exit {
             Exit::WriteFault => 6,
             Exit::Memory => 7,
         }
+    }
+}
+
+impl From<UseFault> for Exit {
+    ghost use Rattle.std.specs.Prelude.{◌≡◌};
+    ghost use Rattle.pa_paclab.specs.declared.exit.Exit.TheVariants as exit;
+
+    ghost from_gives = { λ fault answer. answer ≡ exit.Usage fault };
+
+    fn from(fault: UseFault) -> Exit {
+        Exit::Usage(fault)
+    }
+}
+
+impl From<Memory> for Exit {
+    ghost use Rattle.std.specs.Prelude.{◌≡◌};
+    ghost use Rattle.pa_paclab.specs.declared.exit.Exit.TheVariants as exit;
+
+    ghost from_gives = { λ _ answer. answer ≡ exit.Memory };
+
+    fn from(_: Memory) -> Exit {
+        Exit::Memory
     }
 }

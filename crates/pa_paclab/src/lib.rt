@@ -3,6 +3,10 @@
 
 mod exit;
 mod lines;
+#[cfg(test)]
+mod tests;
+mod top;
 mod words;
 
 pub use exit::{Exit, Refusal, Rule, UseFault};
+pub use top::{MOST_BYTES, paclab};

@@ -1,49 +1,32 @@
 -- A call of `_putchar` with a number, and all of them.
-use Rattle.std.proofs.Common.{◌≡◌, ℕ, zero, suc, ◌+◌, ◌-◌, ◌*◌, ◌/◌, ◌%◌, ◌^◌, ◌<◌, ◌≤◌, Bool, true, false, cond, eqb, ltb, List, [], ◌∷◌, ◌++◌, length, map, get_or, set, refl, sym, ap, subst, ◌∙◌, arith, Option, Some, None, length-set}
-use Rattle.std.specs.Prelude.{pos, ◌&&◌}
+use Rattle.std.proofs.Common.{◌≡◌, ℕ, suc, ◌+◌, ◌*◌, ◌/◌, ◌%◌, ◌^◌, ◌<◌, true, List, [], ◌∷◌, ◌++◌, length, map, refl, sym, ap, subst, ◌∙◌, arith, Some, length-set}
+use Rattle.std.specs.Prelude.{pos}
 use Rattle.std.proofs.lemmas.List.{append-nil, append_assoc}
 use Rattle.std.specs.List.{AllByRecursion}
 use Rattle.pa_num.specs.Arithmetic.{add64, scaled64, with_part}
 use Rattle.pa_pac.specs.declared.key.Key.{Key}
 use Rattle.pa_pac.specs.declared.key.Key.TheVariants.{IB}
-use Rattle.pa_pac.specs.Log.{Log, is_known}
+use Rattle.pa_pac.specs.Log.{is_known}
 use Rattle.pa_pac.specs.Signing.{Code, sign, auth}
 use Rattle.pa_pac.proofs.Laws.{auth-sign, canonical-user}
-use Rattle.pa_a64.specs.declared.instr.Instr.{Instr}
-use Rattle.pa_mem.specs.Memory.{Region}
 use Rattle.pa_object.specs.Machine.{Machine}
-use Rattle.pa_object.specs.Run.{Place, Watched, watched}
-use Rattle.pa_object.specs.Shape.{Shown, Enter, shape, all_known}
-use Rattle.pa_object.proofs.Placed.{Stands, HasCode, HasCode-append}
-use Rattle.pa_object.proofs.Steps.{register-set, watching, here, reach, no_step, movz_step, movk_step, bl_step, pacibsp_step, print_step, retab_step, add64_small, scaled64_small}
-use Rattle.pa_object.proofs.StepsRun.{watched-then, is_known-more, is_known-sign, AreBefore, AreBefore-more, place_of-here, shape-called, all_known-enter, all_known-return}
+use Rattle.pa_object.specs.Run.{Place, watched}
+use Rattle.pa_object.specs.Shape.{Shown, Enter, shape}
+use Rattle.pa_object.proofs.Placed.{HasCode, HasCode-append}
+use Rattle.pa_object.proofs.Steps.{register-set, watching, reach, no_step, movz_step, movk_step, bl_step, pacibsp_step, print_step, retab_step, add64_small, scaled64_small}
+use Rattle.pa_object.proofs.StepsLeads.{IsReady, Leads, leads-then, no_leads}
+use Rattle.pa_object.proofs.StepsRun.{is_known-more, is_known-sign, AreBefore-more, shape-called, all_known-enter, all_known-return}
 use Rattle.pa_straight.specs.Block.{call, calls, putchar}
 
 pub two_parts : (n : ℕ) → n < 2 ^ 32 → with_part (n % 65536 * 2 ^ (16 * 0)) 1 (n / 65536) ≡ n
 unfolding with_part
 two_parts n h = omega arith
 
--- what holds of the machine before each of the parts of a run
-pub record IsReady (m : Machine) (trail : List Place) : Type 0 where
-  pub going : m.ended ≡ None
-  pub wide : length m.registers ≡ 31
-  pub counted : length trail ≡ m.count
-  pub before : AreBefore (length trail) m.log
-  pub known : all_known m.log ≡ true
-
--- so many instructions lead from one machine to another, and show this
-pub record Leads (code : Code) (n : ℕ) (m : Machine) (trail : List Place) (shown : List Shown) (later : Machine) (longer : List Place) : Type 0 where
-  pub runs : watched code [] n (watching m trail) ≡ watching later longer
-  pub ready : IsReady later longer
-  pub counted : later.count ≡ m.count + n
-  pub shows : shape [] longer later.log ≡ shown ++ shape [] trail m.log
-  pub kept : (key : Key) (modifier raw : ℕ) → is_known m.log key modifier raw ≡ true → is_known later.log key modifier raw ≡ true
-
 -- a call of `_putchar` and its return
 pub record Printed (code : Code) (n : ℕ) (m : Machine) (trail : List Place) (shown : List Shown) (bytes : List ℕ) (place : ℕ) : Type 0 where
   pub later : Machine
   pub longer : List Place
-  pub leads : Leads code n m trail shown later longer
+  pub leads : Leads code [] n m trail shown later longer
   pub pc : later.pc ≡ place
   pub sp : later.sp ≡ m.sp
   pub memory : later.memory ≡ m.memory
@@ -56,14 +39,14 @@ printed : (code : Code) (n : ℕ) (m : Machine) (trail : List Place) (shown : Li
     → later.pc ≡ place → later.sp ≡ m.sp → later.memory ≡ m.memory → later.output ≡ m.output ++ bytes
     → Printed code n m trail shown bytes place
 printed code n m trail shown bytes place later longer runs ready counted shows kept at sp memory output = record {
-    later = later;
-    longer = longer;
-    leads = record { runs = runs; ready = ready; counted = counted; shows = shows; kept = kept };
-    pc = at;
-    sp = sp;
-    memory = memory;
-    output = output;
-  }
+  later = later;
+  longer = longer;
+  leads = record { runs = runs; ready = ready; counted = counted; shows = shows; kept = kept };
+  pc = at;
+  sp = sp;
+  memory = memory;
+  output = output;
+}
 
 pub call_runs : (code : Code) (m : Machine) (trail : List Place) → IsReady m trail
     → (n behind : ℕ) (place : ℕ) → n < 2 ^ 32 → m.pc + 12 < 2 ^ 47 → place + 12 < 2 ^ 47 → place ≡ m.pc + 8 + 4 * (3 * behind + 6)
@@ -79,13 +62,13 @@ call_runs code m trail ready n behind place fits low high at (c0, (c1, (c2, c3))
     let opens : auth code IB m.sp (sign code IB m.sp raw) ≡ Some raw = auth-sign code IB m.sp raw (canonical-user raw (omega arith)) in
     let signed = is_known-sign IB m.sp raw (sign code IB m.sp raw) _ m.log in
     printed code 6 m trail _ _ _ _ _ (
-        reach code 5 m _ trail _ _ c0 going (movz_step code m (omega arith) 0 (n % 65536) 0 c0) refl
-        (reach code 4 _ _ _ _ _ c1 going (movk_step code _ (omega arith) 0 (n / 65536) 1 c1) refl
-        (reach code 3 _ _ _ _ _ c2 going (bl_step code _ (omega arith) _ place c2 there) refl
-        (reach code 2 _ _ _ _ _ d0 going (pacibsp_step code _ (omega arith) raw d0 (simp (register-set, length-set, wide))) refl
-        (reach code 1 _ _ _ _ _ d1 going (print_step code _ (omega arith) n d1 (simp (register-set, length-set, wide) (two_parts n fits))) refl
-        (reach code 0 _ _ _ _ _ d2 going (retab_step code _ (sign code IB m.sp raw) raw d2 (simp (register-set, length-set, wide)) opens) refl
-        (no_step code _)))))))
+    reach code 5 m _ trail _ _ c0 going (movz_step code m (omega arith) 0 (n % 65536) 0 c0) refl
+    (reach code 4 _ _ _ _ _ c1 going (movk_step code _ (omega arith) 0 (n / 65536) 1 c1) refl
+    (reach code 3 _ _ _ _ _ c2 going (bl_step code _ (omega arith) _ place c2 there) refl
+    (reach code 2 _ _ _ _ _ d0 going (pacibsp_step code _ (omega arith) raw d0 (simp (register-set, length-set, wide))) refl
+    (reach code 1 _ _ _ _ _ d1 going (print_step code _ (omega arith) n d1 (simp (register-set, length-set, wide) (two_parts n fits))) refl
+    (reach code 0 _ _ _ _ _ d2 going (retab_step code _ (sign code IB m.sp raw) raw d2 (simp (register-set, length-set, wide)) opens) refl
+    (no_step code _)))))))
     (record {
       going = going;
       wide = simp length-set wide;
@@ -100,33 +83,17 @@ call_runs code m trail ready n behind place fits low high at (c0, (c1, (c2, c3))
 
 -- ---- one part behind another
 
-pub leads-then : (code : Code) (n k : ℕ) (m : Machine) (trail : List Place) (shown more : List Shown) (middle : Machine) (between : List Place) (later : Machine) (longer : List Place)
-    → Leads code n m trail shown middle between → Leads code k middle between more later longer → Leads code (n + k) m trail (more ++ shown) later longer
-leads-then code n k m trail shown more middle between later longer one two =
-    let first = one.counted in
-    let second = two.counted in
-    record {
-      runs = watched-then code [] n k _ _ _ one.runs two.runs;
-      ready = two.ready;
-      counted = omega arith;
-      shows = two.shows ∙ ap (λ x. more ++ x) one.shows ∙ sym (append_assoc more shown (shape [] trail m.log));
-      kept = λ key modifier raw h. two.kept key modifier raw (one.kept key modifier raw h);
-    }
-
-pub no_leads : (code : Code) (m : Machine) (trail : List Place) → IsReady m trail → Leads code 0 m trail [] m trail
-no_leads code m trail ready = record { runs = no_step code _; ready = ready; counted = omega arith; shows = refl; kept = λ key modifier raw h. h }
-
 pub printed-then : (code : Code) (n k : ℕ) (m : Machine) (trail : List Place) (shown more : List Shown) (bytes others : List ℕ) (place last : ℕ) (first : Printed code n m trail shown bytes place)
     → Printed code k first.later first.longer more others last → Printed code (n + k) m trail (more ++ shown) (bytes ++ others) last
 printed-then code n k m trail shown more bytes others place last first rest = record {
-    later = rest.later;
-    longer = rest.longer;
-    leads = leads-then code n k m trail shown more first.later first.longer rest.later rest.longer first.leads rest.leads;
-    pc = rest.pc;
-    sp = rest.sp ∙ first.sp;
-    memory = rest.memory ∙ first.memory;
-    output = rest.output ∙ ap (λ x. x ++ others) first.output ∙ append_assoc m.output bytes others;
-  }
+  later = rest.later;
+  longer = rest.longer;
+  leads = leads-then code [] n k m trail shown more first.later first.longer rest.later rest.longer first.leads rest.leads;
+  pc = rest.pc;
+  sp = rest.sp ∙ first.sp;
+  memory = rest.memory ∙ first.memory;
+  output = rest.output ∙ ap (λ x. x ++ others) first.output ∙ append_assoc m.output bytes others;
+}
 
 -- one more of many that are the same
 same-push : {X : Type 0} (x : X) (ns : List ℕ) → map (λ _. x) ns ++ x ∷ [] ≡ x ∷ map (λ _. x) ns
@@ -137,14 +104,14 @@ same-push x (n ∷ ns) = ap (λ xs. x ∷ xs) (same-push x ns)
 
 no_calls : (code : Code) (m : Machine) (trail : List Place) → IsReady m trail → Printed code 0 m trail [] [] (m.pc + 12 * 0)
 no_calls code m trail ready = record {
-    later = m;
-    longer = trail;
-    leads = no_leads code m trail ready;
-    pc = omega arith;
-    sp = refl;
-    memory = refl;
-    output = sym (append-nil m.output);
-  }
+  later = m;
+  longer = trail;
+  leads = no_leads code [] m trail ready;
+  pc = omega arith;
+  sp = refl;
+  memory = refl;
+  output = sym (append-nil m.output);
+}
 
 more_calls : (code : Code) (m : Machine) (trail : List Place) (n : ℕ) (ns : List ℕ) (place : ℕ) (first : Printed code 6 m trail (Enter place ∷ []) (n % 256 ∷ []) (m.pc + 12))
     → Printed code (6 * length ns) first.later first.longer (map (λ _. Enter place) ns) (map (λ n. n % 256) ns) (first.later.pc + 12 * length ns)
@@ -155,8 +122,8 @@ more_calls code m trail n ns place first rest =
     let last : first.later.pc + 12 * length ns ≡ m.pc + 12 * suc (length ns) = omega arith in
     subst (λ x. Printed code x m trail (Enter place ∷ map (λ _. Enter place) ns) (n % 256 ∷ map (λ n. n % 256) ns) (m.pc + 12 * suc (length ns))) count
     (subst (λ x. Printed code (6 + 6 * length ns) m trail x (n % 256 ∷ map (λ n. n % 256) ns) (m.pc + 12 * suc (length ns))) (same-push (Enter place) ns)
-        (subst (λ x. Printed code (6 + 6 * length ns) m trail (map (λ _. Enter place) ns ++ Enter place ∷ []) (n % 256 ∷ map (λ n. n % 256) ns) x) last
-            (printed-then code 6 (6 * length ns) m trail _ _ _ _ (m.pc + 12) (first.later.pc + 12 * length ns) first rest)))
+    (subst (λ x. Printed code (6 + 6 * length ns) m trail (map (λ _. Enter place) ns ++ Enter place ∷ []) (n % 256 ∷ map (λ n. n % 256) ns) x) last
+    (printed-then code 6 (6 * length ns) m trail _ _ _ _ (m.pc + 12) (first.later.pc + 12 * length ns) first rest)))
 
 pub calls_run : (code : Code) (m : Machine) (trail : List Place) → IsReady m trail
     → (ns : List ℕ) (place : ℕ) → AllByRecursion (λ n. n < 2 ^ 32) ns → place + 12 < 2 ^ 47 → place ≡ m.pc + 12 * length ns + 20
@@ -173,5 +140,5 @@ calls_run code m trail ready (n ∷ ns) place fits high at c d =
     go first behind rest =
         let pc = first.pc in
         more_calls code m trail n ns place first (rest first.later first.longer first.leads.ready (omega arith)
-            (subst (λ x. HasCode x first.later.pc (calls ns)) (sym first.memory) (subst (λ x. HasCode m.memory x (calls ns)) (sym first.pc) behind))
-            (subst (λ x. HasCode x place putchar) (sym first.memory) d))
+        (subst (λ x. HasCode x first.later.pc (calls ns)) (sym first.memory) (subst (λ x. HasCode m.memory x (calls ns)) (sym first.pc) behind))
+        (subst (λ x. HasCode x place putchar) (sym first.memory) d))

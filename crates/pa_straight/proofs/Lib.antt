@@ -1,4 +1,4 @@
-mod MemoryStandIn
 pub mod Calls
 pub mod Whole
+pub mod Begun
 mod SourceLaws

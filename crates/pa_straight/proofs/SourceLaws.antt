@@ -177,14 +177,14 @@ same_program s prints returns p r = ap (λ x. record { prints = x; returns = s.r
 is_text_at : (text got rest : List ℕ) (n : ℕ) → HasRead text got rest → BeginsOtherwise (codes "putchar(") (line (codes ");")) rest
     → n < 2 ^ 31 → rest ≡ closing n → IsTextOf text (record { prints = got; returns = n })
 is_text_at text got rest n read other fits last = record {
-    source = record { few = read.few; small = read.small; status = fits };
-    spelled = sym (read.parts ∙ ap (λ x. opening ++ (flat_map print_line got ++ x)) last);
-    only = λ s source e.
-    let left = left_in text got rest s read source e in
-    let ends = end_of_lines left.more s.returns rest left.small other left.here in
-    let same = closing-only n s.returns [] fits source.status (append-nil (closing n) ∙ sym last ∙ ends.1) in
-    same_program s got n (left.all ∙ ap (λ x. got ++ x) ends.0 ∙ append-nil got) (sym same.0);
-  }
+  source = record { few = read.few; small = read.small; status = fits };
+  spelled = sym (read.parts ∙ ap (λ x. opening ++ (flat_map print_line got ++ x)) last);
+  only = λ s source e.
+      let left = left_in text got rest s read source e in
+      let ends = end_of_lines left.more s.returns rest left.small other left.here in
+      let same = closing-only n s.returns [] fits source.status (append-nil (closing n) ∙ sym last ∙ ends.1) in
+      same_program s got n (left.all ∙ ap (λ x. got ++ x) ends.0 ∙ append-nil got) (sym same.0);
+}
 
 pub is_text : (text got rest : List ℕ) (n : ℕ) (behind : List ℕ) → HasRead text got rest → BeginsOtherwise (codes "putchar(") (line (codes ");")) rest
     → n < 2 ^ 31 → rest ≡ closing n ++ behind → eqb (length behind) 0 ≡ true → IsTextOf text (record { prints = got; returns = n })

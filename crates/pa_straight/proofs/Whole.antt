@@ -1,32 +1,31 @@
 -- The whole run of a program of the first form.
-use Rattle.std.proofs.Common.{◌≡◌, ℕ, zero, suc, ◌+◌, ◌-◌, ◌*◌, ◌/◌, ◌%◌, ◌^◌, ◌<◌, ◌≤◌, Bool, true, false, cond, eqb, ltb, List, [], ◌∷◌, ◌++◌, length, map, get_or, set, refl, sym, ap, subst, ◌∙◌, arith, Option, Some, None, length-set}
-use Rattle.std.specs.Prelude.{pos, ◌&&◌}
-use Rattle.std.proofs.lemmas.List.{append-nil, append_assoc}
+use Rattle.std.proofs.Common.{◌≡◌, ℕ, ◌+◌, ◌-◌, ◌*◌, ◌/◌, ◌%◌, ◌^◌, ◌<◌, ◌≤◌, true, List, [], ◌∷◌, ◌++◌, length, map, get_or, refl, sym, ap, subst, ◌∙◌, arith, Some, length-set}
+use Rattle.std.specs.Prelude.{pos}
+use Rattle.std.proofs.lemmas.List.{append-nil}
 use Rattle.std.specs.List.{AllByRecursion}
 use Rattle.std.specs.Int.{w32, cast_signed}
-use Rattle.pa_num.specs.Arithmetic.{add64, scaled64, with_part}
+use Rattle.pa_num.specs.Arithmetic.{add64, scaled64}
 use Rattle.pa_pac.specs.declared.key.Key.{Key}
 use Rattle.pa_pac.specs.declared.key.Key.TheVariants.{IB}
-use Rattle.pa_pac.specs.Log.{Log, is_known}
-use Rattle.pa_pac.specs.declared.event.Event.TheVariants as event
-use Rattle.pa_pac.specs.declared.event.When.TheVariants.{Step}
+use Rattle.pa_pac.specs.Log.{is_known}
 use Rattle.pa_pac.specs.Signing.{Code, sign, auth}
 use Rattle.pa_pac.proofs.Laws.{auth-sign, sign-lt, canonical-user}
 use Rattle.pa_a64.specs.declared.instr.Instr.{Instr}
 use Rattle.pa_a64.specs.declared.instr.Instr.TheVariants.{Exception}
 use Rattle.pa_a64.specs.declared.instr.ExceptionOp.TheVariants.{Svc}
 use Rattle.pa_straight.specs.declared.source.Straight.{Straight}
-use Rattle.pa_mem.specs.Memory.{Region, Right, Read, Write, allowed, load, store, fetch}
+use Rattle.pa_mem.specs.Memory.{Region, Right, Read, Write, allowed, load, store}
 use Rattle.pa_object.specs.declared.end.End.TheVariants.{Exit}
 use Rattle.pa_object.specs.Machine.{Machine}
-use Rattle.pa_object.specs.Run.{Place, Watched, watched}
-use Rattle.pa_object.specs.Shape.{Shown, Enter, shape, all_known}
+use Rattle.pa_object.specs.Run.{Place, watched}
+use Rattle.pa_object.specs.Shape.{Enter, shape, all_known}
 use Rattle.pa_object.proofs.Placed.{Stands, HasCode, HasCode-append, HasCode-same}
-use Rattle.pa_object.proofs.Steps.{register-set, watching, here, reach, no_step, movz_step, movk_step, add_sp_step, sub_sp_step, stp_sp_step, ldp_sp_step, bl_step, pacibsp_step, retab_step, exit_step, add64_small, scaled64_small}
-use Rattle.pa_object.proofs.StepsRun.{watched-then, watched-ended, is_known-more, is_known-sign, AreBefore, AreBefore-more, place_of-here, shape-more, shape-enter, shape-return, all_known-enter, all_known-return}
+use Rattle.pa_object.proofs.Steps.{register-set, watching, reach, no_step, movz_step, movk_step, add_sp_step, sub_sp_step, stp_sp_step, ldp_sp_step, bl_step, pacibsp_step, retab_step, exit_step, add64_small, scaled64_small}
+use Rattle.pa_object.proofs.StepsRun.{watched-then, is_known-more, is_known-sign, AreBefore-more, shape-more, shape-entered, shape-return, all_known-enter, all_known-return}
 use Rattle.pa_straight.specs.Block.{start, prologue, epilogue, calls, putchar, instructions}
-use Rattle.pa_straight.proofs.MemoryStandIn.{allowed-store, load-store-same, fetch-store}
-use Rattle.pa_straight.proofs.Calls.{IsReady, Leads, Printed, leads-then, calls_run, two_parts}
+use Rattle.pa_mem.proofs.Ranges.{allowed-store, load-store-allowed, fetch-store-other}
+use Rattle.pa_object.proofs.StepsLeads.{IsReady, Leads, leads-then}
+use Rattle.pa_straight.proofs.Calls.{Printed, calls_run, two_parts}
 
 -- ---- the beginning
 
@@ -34,7 +33,7 @@ use Rattle.pa_straight.proofs.Calls.{IsReady, Leads, Printed, leads-then, calls_
 pub record Entered (code : Code) (m : Machine) (trail : List Place) : Type 0 where
   pub later : Machine
   pub longer : List Place
-  pub leads : Leads code 4 m trail (Enter (m.pc + 12) ∷ []) later longer
+  pub leads : Leads code [] 4 m trail (Enter (m.pc + 12) ∷ []) later longer
   pub pc : later.pc ≡ m.pc + 24
   pub sp : later.sp ≡ m.sp - 16
   pub memory : later.memory ≡ store 8 (store 8 m.memory (m.sp - 16 + 8 * 0) (get_or m.registers 29 0)) (m.sp - 16 + 8 * 0 + 8) (sign code IB m.sp (m.pc + 4))
@@ -49,26 +48,15 @@ entered : (code : Code) (m : Machine) (trail : List Place) (later : Machine) (lo
     → later.memory ≡ store 8 (store 8 m.memory (m.sp - 16 + 8 * 0) (get_or m.registers 29 0)) (m.sp - 16 + 8 * 0 + 8) (sign code IB m.sp (m.pc + 4))
     → later.output ≡ m.output → is_known later.log IB m.sp (m.pc + 4) ≡ true → Entered code m trail
 entered code m trail later longer runs ready counted shows kept at sp memory output known = record {
-    later = later;
-    longer = longer;
-    leads = record { runs = runs; ready = ready; counted = counted; shows = shows; kept = kept };
-    pc = at;
-    sp = sp;
-    memory = memory;
-    output = output;
-    known = known;
-  }
-
--- the shape when a function has been entered and is not left
-shape-entered : (front : List Place) (entry : Place) (middle trail : List Place) (number modifier raw signed : ℕ) (log : Log)
-    → number ≡ length (middle ++ trail) → AreBefore (length trail) log
-    → shape [] (front ++ entry ∷ (middle ++ trail)) (record { when = Step number; event = event.Sign IB modifier raw signed } ∷ log) ≡ Enter entry.at ∷ shape [] trail log
-shape-entered front entry middle trail number modifier raw signed log e h =
-    let longer = front ++ entry ∷ (middle ++ trail) in
-    let parts : front ++ entry ∷ (middle ++ trail) ≡ (front ++ entry ∷ middle) ++ trail = sym (append_assoc front (entry ∷ middle) trail) in
-    shape-enter [] longer number modifier raw signed log
-    ∙ ap (λ at. Enter at ∷ shape [] longer log) (place_of-here front entry (middle ++ trail) number e)
-    ∙ ap (λ x. Enter entry.at ∷ x) (ap (λ x. shape [] x log) parts ∙ shape-more [] (front ++ entry ∷ middle) trail log h)
+  later = later;
+  longer = longer;
+  leads = record { runs = runs; ready = ready; counted = counted; shows = shows; kept = kept };
+  pc = at;
+  sp = sp;
+  memory = memory;
+  output = output;
+  known = known;
+}
 
 pub enter_runs : (code : Code) (m : Machine) (trail : List Place) → IsReady m trail
     → 16 ≤ m.sp → m.sp < 2 ^ 63 → m.pc + 24 < 2 ^ 47
@@ -83,11 +71,11 @@ enter_runs code m trail ready room top low first second (c0, (c1, (c2, (c3, (c4,
     let main : m.pc + 12 ≡ m.pc + 4 + 4 + 4 = omega arith in
     let there : add64 m.pc (scaled64 4 (pos 3)) ≡ m.pc + 4 + 4 + 4 = ap (add64 m.pc) words ∙ add64_small m.pc 12 (omega arith) ∙ main in
     entered code m trail _ _ (
-        reach code 3 m _ trail _ _ c0 going (bl_step code m (omega arith) _ (m.pc + 4 + 4 + 4) c0 there) refl
-        (reach code 2 _ _ _ _ _ c3 going (pacibsp_step code _ (omega arith) raw c3 (simp (register-set, length-set, wide))) refl
-        (reach code 1 _ _ _ _ _ c4 going (sub_sp_step code _ (omega arith) 16 c4 room (omega arith)) refl
-        (reach code 0 _ _ _ _ _ c5 going (stp_sp_step code _ (omega arith) 29 30 0 (get_or m.registers 29 0) (sign code IB m.sp raw) c5 (simp (register-set, length-set, wide)) (simp (register-set, length-set, wide)) (omega arith) first second) refl
-        (no_step code _)))))
+    reach code 3 m _ trail _ _ c0 going (bl_step code m (omega arith) _ (m.pc + 4 + 4 + 4) c0 there) refl
+    (reach code 2 _ _ _ _ _ c3 going (pacibsp_step code _ (omega arith) raw c3 (simp (register-set, wide))) refl
+    (reach code 1 _ _ _ _ _ c4 going (sub_sp_step code _ (omega arith) 16 c4 room (omega arith)) refl
+    (reach code 0 _ _ _ _ _ c5 going (stp_sp_step code _ (omega arith) 29 30 0 (get_or m.registers 29 0) (sign code IB m.sp raw) c5 (simp register-set) (simp (register-set, length-set, wide)) (omega arith) first second) refl
+    (no_step code _)))))
     (record {
       going = going;
       wide = simp length-set wide;
@@ -96,7 +84,7 @@ enter_runs code m trail ready room top low first second (c0, (c1, (c2, (c3, (c4,
       known = all_known-enter _ IB m.sp raw _ m.log ready.known;
     })
     (omega arith)
-    (shape-entered (_ ∷ _ ∷ []) _ (_ ∷ []) trail _ _ _ _ m.log (omega arith) ready.before ∙ ap (λ at. Enter at ∷ shape [] trail m.log) (sym main))
+    (shape-entered [] (_ ∷ _ ∷ []) _ (_ ∷ []) trail _ _ _ _ m.log (omega arith) ready.before ∙ ap (λ at. Enter at ∷ shape [] trail m.log) (sym main))
     (λ key modifier r h. is_known-more _ _ key modifier r h)
     (omega arith) refl refl refl
     (is_known-sign IB m.sp raw _ _ m.log)
@@ -118,15 +106,15 @@ ended : (code : Code) (m : Machine) (trail : List Place) (status : ℕ) (later :
     → watched code [] 6 (watching m trail) ≡ watching later longer → later.ended ≡ Some (Exit (cast_signed w32 (status % 2 ^ 32))) → later.count ≡ m.count + 6
     → all_known later.log ≡ true → shape [] longer later.log ≡ shape [] trail m.log → later.output ≡ m.output → Ended code m trail status
 ended code m trail status later longer runs end counted known shows output = record {
-    later = later;
-    longer = longer;
-    runs = runs;
-    ended = end;
-    counted = counted;
-    known = known;
-    shows = shows;
-    output = output;
-  }
+  later = later;
+  longer = longer;
+  runs = runs;
+  ended = end;
+  counted = counted;
+  known = known;
+  shows = shows;
+  output = output;
+}
 
 pub end_runs : (code : Code) (m : Machine) (trail : List Place) → IsReady m trail
     → (status raw signed top : ℕ) → status < 2 ^ 32 → m.pc + 20 < 2 ^ 47 → raw + 4 < 2 ^ 47 → top < 2 ^ 63 → m.sp + 16 ≡ top
@@ -140,13 +128,13 @@ end_runs code m trail ready status raw signed top fits low back high frame first
     let same : auth code IB (m.sp + 16) signed ≡ Some raw = ap (λ sp. auth code IB sp signed) frame ∙ opens in
     let sign_known : is_known m.log IB (m.sp + 16) raw ≡ true = ap (λ sp. is_known m.log IB sp raw) frame ∙ known in
     ended code m trail status _ _ (
-        reach code 5 m _ trail _ _ c0 going (movz_step code m (omega arith) 0 (status % 65536) 0 c0) refl
-        (reach code 4 _ _ _ _ _ c1 going (movk_step code _ (omega arith) 0 (status / 65536) 1 c1) refl
-        (reach code 3 _ _ _ _ _ c2 going (ldp_sp_step code _ (omega arith) 29 30 0 c2 (omega arith) first second) refl
-        (reach code 2 _ _ _ _ _ c3 going (add_sp_step code _ (omega arith) 16 c3 (omega arith)) refl
-        (reach code 1 _ _ _ _ _ c4 going (retab_step code _ signed raw c4 (simp (register-set, length-set, wide) loaded) same) refl
-        (reach code 0 _ _ _ _ _ d going (exit_step code _ status d (simp (register-set, length-set, wide) (two_parts status fits))) refl
-        (no_step code _)))))))
+    reach code 5 m _ trail _ _ c0 going (movz_step code m (omega arith) 0 (status % 65536) 0 c0) refl
+    (reach code 4 _ _ _ _ _ c1 going (movk_step code _ (omega arith) 0 (status / 65536) 1 c1) refl
+    (reach code 3 _ _ _ _ _ c2 going (ldp_sp_step code _ (omega arith) 29 30 0 c2 (omega arith) first second) refl
+    (reach code 2 _ _ _ _ _ c3 going (add_sp_step code _ (omega arith) 16 c3 (omega arith)) refl
+    (reach code 1 _ _ _ _ _ c4 going (retab_step code _ signed raw c4 (simp (register-set, length-set, wide) loaded) same) refl
+    (reach code 0 _ _ _ _ _ d going (exit_step code _ status d (simp (register-set, length-set, wide) (two_parts status fits))) refl
+    (no_step code _)))))))
     refl
     (omega arith)
     (all_known-return _ _ IB _ raw raw _ m.log sign_known ready.known)
@@ -169,7 +157,7 @@ pub record Begins (m : Machine) (s : Straight) : Type 0 where
   pub reads : (at : ℕ) → m.sp - 16 ≤ at → at + 8 ≤ m.sp → allowed Read m.memory at 8 ≡ true
   pub writes : (at : ℕ) → m.sp - 16 ≤ at → at + 8 ≤ m.sp → allowed Write m.memory at 8 ≡ true
 
-length-calls : (ns : List ℕ) → length (calls ns) ≡ 3 * length ns
+pub length-calls : (ns : List ℕ) → length (calls ns) ≡ 3 * length ns
 length-calls [] = refl
 length-calls (n ∷ ns) = let more = length-calls ns in omega arith
 
@@ -183,7 +171,7 @@ allowed-saved right memory at v w c = allowed-store 8 right (store 8 memory at v
 HasCode-saved : (memory : List Region) (at v w : ℕ) (place : ℕ) (is : List Instr) → place + 4 * length is ≤ at → HasCode memory place is → HasCode (saved memory at v w) place is
 HasCode-saved memory at v w place is below c =
     HasCode-same memory (saved memory at v w) place is
-    (λ p low high. fetch-store 8 (store 8 memory at v) (at + 8) w p (λ h. omega arith) ∙ fetch-store 8 memory at v p (λ h. omega arith)) c
+    (λ p low high. fetch-store-other 8 (store 8 memory at v) (at + 8) w p (λ h. omega arith) ∙ fetch-store-other 8 memory at v p (λ h. omega arith)) c
 
 no_shape : shape [] [] [] ≡ []
 unfolding shape
@@ -231,7 +219,7 @@ parts_of code m s b v w =
 record Called (code : Code) (m : Machine) (s : Straight) : Type 0 where
   later : Machine
   longer : List Place
-  leads : Leads code (4 + 6 * length s.prints) m [] (map (λ _. Enter (m.pc + 12 * length s.prints + 44)) s.prints ++ Enter (m.pc + 12) ∷ []) later longer
+  leads : Leads code [] (4 + 6 * length s.prints) m [] (map (λ _. Enter (m.pc + 12 * length s.prints + 44)) s.prints ++ Enter (m.pc + 12) ∷ []) later longer
   pc : later.pc ≡ m.pc + 24 + 12 * length s.prints
   sp : later.sp ≡ m.sp - 16
   memory : later.memory ≡ saved m.memory (m.sp - 16 + 8 * 0) (get_or m.registers 29 0) (sign code IB m.sp (m.pc + 4))
@@ -242,15 +230,15 @@ called_of : (code : Code) (m : Machine) (s : Straight) (entry : Entered code m [
     → Printed code (6 * length s.prints) entry.later entry.longer (map (λ _. Enter (m.pc + 12 * length s.prints + 44)) s.prints) (map (λ n. n % 256) s.prints) (entry.later.pc + 12 * length s.prints)
     → Called code m s
 called_of code m s entry printed = record {
-    later = printed.later;
-    longer = printed.longer;
-    leads = leads-then code 4 (6 * length s.prints) m [] _ _ entry.later entry.longer printed.later printed.longer entry.leads printed.leads;
-    pc = printed.pc ∙ ap (λ p. p + 12 * length s.prints) entry.pc;
-    sp = printed.sp ∙ entry.sp;
-    memory = printed.memory ∙ entry.memory;
-    output = printed.output ∙ ap (λ x. x ++ map (λ n. n % 256) s.prints) entry.output;
-    known = printed.leads.kept IB m.sp (m.pc + 4) entry.known;
-  }
+  later = printed.later;
+  longer = printed.longer;
+  leads = leads-then code [] 4 (6 * length s.prints) m [] _ _ entry.later entry.longer printed.later printed.longer entry.leads printed.leads;
+  pc = printed.pc ∙ ap (λ p. p + 12 * length s.prints) entry.pc;
+  sp = printed.sp ∙ entry.sp;
+  memory = printed.memory ∙ entry.memory;
+  output = printed.output ∙ ap (λ x. x ++ map (λ n. n % 256) s.prints) entry.output;
+  known = printed.leads.kept IB m.sp (m.pc + 4) entry.known;
+}
 
 called : (code : Code) (m : Machine) (s : Straight) → Begins m s → AllByRecursion (λ n. n < 2 ^ 32) s.prints
     → Parts code m s (saved m.memory (m.sp - 16 + 8 * 0) (get_or m.registers 29 0) (sign code IB m.sp (m.pc + 4))) → Called code m s
@@ -264,8 +252,8 @@ called code m s b fits parts =
         let low = b.low in
         let pc = entry.pc in
         called_of code m s entry (calls_run code entry.later entry.longer entry.leads.ready s.prints (m.pc + 12 * length s.prints + 44) fits (omega arith) (omega arith)
-            (subst (λ x. HasCode x entry.later.pc (calls s.prints)) (sym entry.memory) (subst (λ p. HasCode _ p (calls s.prints)) (sym entry.pc) parts.calls))
-            (subst (λ x. HasCode x (m.pc + 12 * length s.prints + 44) putchar) (sym entry.memory) parts.putchar))
+        (subst (λ x. HasCode x entry.later.pc (calls s.prints)) (sym entry.memory) (subst (λ p. HasCode _ p (calls s.prints)) (sym entry.pc) parts.calls))
+        (subst (λ x. HasCode x (m.pc + 12 * length s.prints + 44) putchar) (sym entry.memory) parts.putchar))
 
 finished_of : (code : Code) (m : Machine) (s : Straight) → Begins m s → (made : Called code m s) → Ended code made.later made.longer s.returns → Finished code m s
 finished_of code m s b made last =
@@ -294,8 +282,9 @@ saved_word code m s b made =
     let w = sign code IB m.sp (m.pc + 4) in
     let may : allowed Write (store 8 m.memory at v) (at + 8) 8 ≡ true = allowed-store 8 Write m.memory at v (at + 8) 8 ∙ b.writes (at + 8) (omega arith) (omega arith) in
     let fits : w < 2 ^ 64 = sign-lt code IB m.sp (m.pc + 4) (omega arith) in
+    let whole : w % 256 ^ 8 ≡ w = omega arith in
     ap (λ x. load 8 x (made.later.sp + 8 * 0 + 8)) made.memory ∙ ap (λ sp. load 8 (saved m.memory at v w) (sp + 8 * 0 + 8)) made.sp
-    ∙ load-store-same 8 Write (store 8 m.memory at v) (at + 8) w may fits
+    ∙ load-store-allowed Write 8 (store 8 m.memory at v) (at + 8) w may ∙ whole
 
 may_read : (code : Code) (m : Machine) (s : Straight) → Begins m s → (made : Called code m s) → (at : ℕ) → m.sp - 16 ≤ at → at + 8 ≤ m.sp → allowed Read made.later.memory at 8 ≡ true
 may_read code m s b made at low high =
@@ -319,6 +308,6 @@ finish code m s b fits small =
             let code_there = subst (λ x. HasCode x made.later.pc (epilogue s.returns)) (sym made.memory) (subst (λ p. HasCode _ p (epilogue s.returns)) (sym made.pc) parts.last) in
             let exit = subst (λ x. Stands x (m.pc + 4) (Exception Svc 3)) (sym made.memory) parts.exit in
             finished_of code m s b made (end_runs code made.later made.longer made.leads.ready s.returns (m.pc + 4) (sign code IB m.sp (m.pc + 4)) m.sp
-                small (omega arith) (omega arith) b.top (omega arith)
-                (may_read code m s b made _ (omega arith) (omega arith)) (may_read code m s b made _ (omega arith) (omega arith))
-                (saved_word code m s b made) opens made.known code_there exit)
+            small (omega arith) (omega arith) b.top (omega arith)
+            (may_read code m s b made _ (omega arith) (omega arith)) (may_read code m s b made _ (omega arith) (omega arith))
+            (saved_word code m s b made) opens made.known code_there exit)

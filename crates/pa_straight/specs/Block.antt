@@ -79,14 +79,14 @@ memory_of words =
 -- at `start`, with zeros in all registers and the stack empty
 abbrev pub begun : List ℕ → Machine
 begun words = record {
-    registers = replicate 31 0;
-    sp = 0x1_7000_0000;
-    flags = record { negative = false; zero = false; carry = false; overflow = false };
-    memory = memory_of words;
-    pc = base;
-    count = 0;
-    input = [];
-    output = [];
-    log = [];
-    ended = None;
-  }
+  registers = replicate 31 0;
+  sp = 0x1_7000_0000;
+  flags = record { negative = false; zero = false; carry = false; overflow = false };
+  memory = memory_of words;
+  pc = base;
+  count = 0;
+  input = [];
+  output = [];
+  log = [];
+  ended = None;
+}

@@ -14,6 +14,9 @@ pub const MOST_PRINTS: usize = 1000;
 /// The greatest number that such a program may name.
 pub const GREATEST: u32 = 0x7FFF_FFFF;
 
+/// The digit that no longer number begins with.
+const ZERO: u8 = b'0';
+
 /// A program of the first form: it prints the low bytes of these numbers in order, and returns.
 #[derive(Debug, Drop)]
 pub struct Straight {
@@ -69,7 +72,10 @@ fn number(bytes: &[u8]) -> Option<(u32, &[u8])>
 fn digit_count(bytes: &[u8]) -> usize
     ensures { result ≡ prefix_len is_ascii_digit bytes.now }
 {
-    bytes.iter().take_while(|byte| byte.is_ascii_digit()).count()
+    bytes
+        .iter()
+        .take_while(|byte| byte.is_ascii_digit())
+        .count()
 }
 
 /// The number that these digits write without a leading zero.
@@ -77,7 +83,7 @@ fn value(digits: &[u8]) -> Option<u32>
     requires { all_ascii_digits digits.now ≡ true }
     ensures { MatchOption result ((n : ℕ) → n < 2 ^ 31 → decimal n ≢ digits.now) (λ n. (n < 2 ^ 31) × (decimal n ≡ digits.now)) }
 {
-    if digits.len() > 1 && digits[0] == b'0' {
+    if digits.len() > 1 && digits[0] == ZERO {
         return None;
     }
     let Ok(text) = std::str::from_utf8(digits) else {

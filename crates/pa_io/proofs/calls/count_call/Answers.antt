@@ -1,5 +1,4 @@
-use Rattle.std.proofs.Common.{◌≡◌, ◌+◌, ◌<◌, arith, rules}
-use Rattle.pa_io.specs.Calls.{is_to_fail, failures}
+use Rattle.std.proofs.Common.{arith}
 use Rattle.pa_io.proofs.Failures.{failures-next, failures-rose}
 use Rattle.pa_io.proofs.calls.count_call.Goals as goal
 

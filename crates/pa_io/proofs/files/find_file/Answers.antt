@@ -1,6 +1,5 @@
-use Rattle.std.proofs.Common.{◌≡◌, arith, rules}
+use Rattle.std.proofs.Common.{arith}
 use Rattle.std.proofs.lemmas.Grind.{common_steps}
-use Rattle.std.specs.Option.{option_copied, option_map}
 use Rattle.pa_io.specs.Files.{file_of}
 use Rattle.pa_io.proofs.files.find_file.Goals as goal
 

@@ -1,6 +1,5 @@
-use Rattle.std.proofs.Common.{◌≤◌, length, take, drop, arith, rules, refl}
-use Rattle.std.proofs.lemmas.Grind.{common_steps}
-use Rattle.pa_io.proofs.Growth.{Written, Written-more, Written-stayed, Written-prefix}
+use Rattle.std.proofs.Common.{arith, rules}
+use Rattle.pa_io.proofs.Growth.{Written-more, Written-stayed, Written-prefix}
 use Rattle.pa_io.proofs.outside.write_all.Goals as goal
 
 pub returns-in_err-taken-clause-prefix : goal.returns-in_err-taken-clause-prefix

@@ -21,7 +21,7 @@ pub loop-number-preserved : goal.loop-number-preserved
 loop-number-preserved c =
     subst (λ got. HasRead c.args.bytes.now got c.in-Some-framed.after.now) (sym c.in_ok-push.ensures.ok)
     (HasRead-push c.args.bytes.now c.loop-number.prints c.loop-number.rest.now c.in-Some-framed.after.now c.in-Some-framed.number c.loop-number.invariant
-        c.in-Some-framed.ensures.1 c.in-Some-framed.ensures.0 (λ e. c.if-len-eq-MOST_PRINTS.false (c.len.ensures ∙ e)))
+    c.in-Some-framed.ensures.1 c.in-Some-framed.ensures.0 (λ e. c.if-len-eq-MOST_PRINTS.false (c.len.ensures ∙ e)))
 
 pub returns-in_default-framed-2 : goal.returns-in_default-framed-2
 returns-in_default-framed-2 c =

@@ -1,0 +1,7 @@
+pub mod Cuts
+pub mod Parts
+pub mod SlotLaws
+pub mod Trip
+pub mod Walk
+pub mod Words
+pub mod Written

@@ -1,0 +1,5 @@
+pub mod CheckLaws
+pub mod Facts
+pub mod Laws
+pub mod NameLaws
+pub mod Pieces

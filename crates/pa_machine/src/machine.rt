@@ -1,0 +1,157 @@
+//! The machine, step by step.
+
+ghost use Rattle.std.specs.Prelude.{◌≡◌, ◌+◌, ◌-◌, ◌*◌, ◌^◌, ◌<◌, ◌≤◌, length, IfOk, OnOk, OnErr, None, [], ℕ};
+ghost use Rattle.pa_object.specs.Machine.{begun};
+ghost use Rattle.pa_object.specs.Run.{step, run, end_of};
+ghost use Rattle.pa_machine.specs.Running.{went};
+
+use crate::loaded::Loaded;
+use crate::processor::Processor;
+use crate::went::Went;
+use pa_log::Log;
+use pa_num::{Bytes, Memory};
+use pa_object::End;
+use pa_pac::Pac;
+use std::alloc::Global;
+use std::marker::Model;
+
+const STEPS_AT_A_TIME: u32 = 4096;
+
+/// A machine under a function for the authentication codes. It takes memory only where it is made and in `reserve`, which
+/// makes room for what steps print and log.
+#[derive(Drop)]
+pub struct Machine<'a, P: Pac> {
+    processor: Processor,
+    spare: u32,
+    p: &'a P,
+}
+
+impl<'a, P: Pac> Model for Machine<'a, P> {
+    ghost use Rattle.std.specs.Prelude.{◌+◌, ◌*◌, ◌≤◌, length};
+    ghost use Rattle.pa_machine.specs.Running.{Running};
+
+    ghost Value = { Running P };
+
+    ghost view = { λ m. record { machine = m.processor.machine; spare = m.spare; pac = m.p.now } };
+
+    ghost invariant = { λ m. (length m.processor.machine.log + 2 * m.spare ≤ m.processor.log_limit)
+        × (length m.processor.machine.output + m.spare ≤ m.processor.output_limit) };
+}
+
+impl<'a, P: Pac> Machine<'a, P> {
+    /// A machine that begins where the images are loaded, with this input and `p` for the authentication codes.
+    pub fn new(alloc: Global, loaded: Loaded, input: &[u8], p: &'a P) -> Result<Machine<'a, P>, Memory>
+        ensures machine { IfOk result (λ made. made.machine ≡ begun loaded.space loaded.log.entries loaded.pc loaded.sp input.now) }
+        ensures pac { IfOk result (λ made. made.pac ≡ p.now) }
+    {
+        let input = Bytes::from_slice(alloc, input)?;
+        let processor = Processor::new(alloc, loaded, input);
+        Ok(Machine {
+            processor,
+            spare: 0,
+            p,
+        })
+    }
+
+    /// Makes room for what so many steps print and log: two entries and a byte each.
+    pub fn reserve(&mut self, steps: u32) -> Result<(), Memory>
+        ensures ok { OnOk result (steps ≤ self.new.spare) }
+        ensures spare { self.old.spare ≤ self.new.spare }
+        ensures rest { self.new ≡ record self.old { spare = self.new.spare } }
+        ensures err { OnErr result (self.new ≡ self.old) }
+    {
+        if steps > self.spare {
+            self.processor.reserve(steps)?;
+            self.spare = steps;
+        }
+        Ok(())
+    }
+
+    /// One instruction. It takes no memory.
+    #[tactic(auto, using(crate::proofs::Room::step_logs, crate::proofs::Room::step_prints))]
+    pub fn step(&mut self) -> Went
+        requires spare { 0 < self.old.spare }
+        requires goes { self.old.machine.ended ≡ None }
+        requires count { self.old.machine.count < 2 ^ 32 - 1 }
+        ensures new { self.new ≡ record self.old { machine = step (P.code self.old.pac) self.old.machine; spare = self.old.spare - 1 } }
+        ensures went { result ≡ went self.new.machine.ended }
+    {
+        self.spare -= 1;
+        self.processor.step(self.p);
+        match self.processor.ended() {
+            None => Went::Goes,
+            Some(end) => Went::Ended(end),
+        }
+    }
+
+    fn ended(&self) -> Option<End>
+        ensures { result ≡ self.now.machine.ended }
+    {
+        self.processor.ended()
+    }
+
+    fn count(&self) -> u32
+        ensures { result ≡ self.now.machine.count }
+    {
+        self.processor.count()
+    }
+
+    // Room for a step, made for several of those that are left at a time.
+    fn make_room(&mut self, left: u32) -> Result<(), Memory>
+        requires { 0 < left }
+        ensures ok { OnOk result (0 < self.new.spare) }
+        ensures rest { self.new ≡ record self.old { spare = self.new.spare } }
+    {
+        if self.spare == 0 {
+            self.reserve(left.min(STEPS_AT_A_TIME))?;
+        }
+        Ok(())
+    }
+
+    /// Runs until `bound` instructions ran in all, unless the program or a trap ends the run before. Room is made for 4,096
+    /// steps at a time; after want of memory the machine stands where a run for fewer instructions does.
+    pub fn run(&mut self, bound: u32) -> Result<End, Memory>
+        ensures machine { OnOk result (self.new.machine ≡ run (P.code self.old.pac) [] bound self.old.machine) }
+        ensures end { IfOk result (λ end. end ≡ end_of self.new.machine) }
+        ensures err { OnErr result ((n : ℕ) × (n < bound) × (self.new.machine ≡ run (P.code self.old.pac) [] n self.old.machine)) }
+        ensures pac { self.new.pac ≡ self.old.pac }
+    {
+        if let Some(end) = self.ended() {
+            return Ok(end);
+        }
+        for count in self.count()..bound {
+            self.make_room(bound - count)?;
+            if let Went::Ended(end) = self.step() {
+                return Ok(end);
+            }
+        }
+        Ok(End::Bound)
+    }
+
+    /// The bytes that the program has printed.
+    pub fn output(&self) -> &[u8]
+        ensures { result.now ≡ self.now.machine.output }
+    {
+        self.processor.output()
+    }
+
+    /// The log of what was signed, authenticated and branched to.
+    pub fn log(&self) -> &Log
+        ensures { result.now.entries ≡ self.now.machine.log }
+    {
+        self.processor.log()
+    }
+
+    /// What the program has printed, and the log.
+    pub fn into_parts(self) -> (Bytes, Log)
+        ensures output { result.0 ≡ self.entry.machine.output }
+        ensures log { result.1.entries ≡ self.entry.machine.log }
+    {
+        let Machine {
+            processor,
+            spare: _,
+            p: _,
+        } = self;
+        processor.into_parts()
+    }
+}

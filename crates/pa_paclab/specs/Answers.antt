@@ -1,0 +1,152 @@
+-- When each answer of the top call comes, and what is written then.
+use Rattle.std.specs.Prelude.{◌≡◌, ℕ, ◌<◌, ◌≤◌, List, [], length, false, ⊤, ◌⊎◌, Option, Some, None, IsSomeAnd}
+use Rattle.pa_io.specs.Outside.{Told, Untold, Missing, Holds, IsFile, Rose}
+use Rattle.pa_pac.specs.Signing.{Code}
+use Rattle.pa_pac.specs.Log.{Log}
+use Rattle.pa_object.specs.declared.end.End.{End}
+use Rattle.pa_object.specs.Machine.{Machine}
+use Rattle.pa_object.specs.Run.{run, end_of}
+use Rattle.pa_straight.specs.declared.source.Straight.{Straight}
+use Rattle.pa_straight.specs.Source.{IsTextOf, IsNoText}
+use Rattle.pa_straight.specs.Block.{begun}
+use Rattle.pa_straight.specs.Shows.{Runs}
+use Rattle.pa_engine.specs.Report.{report_text}
+use Rattle.pa_paclab.specs.declared.exit.Exit.{Exit}
+use Rattle.pa_paclab.specs.declared.exit.Exit.TheVariants as exit
+use Rattle.pa_paclab.specs.declared.exit.UseFault.TheVariants.{U1}
+use Rattle.pa_paclab.specs.declared.exit.Refusal.{Refusal}
+use Rattle.pa_paclab.specs.declared.exit.Rule.{Rule}
+use Rattle.pa_paclab.specs.declared.exit.Rule.TheVariants.{M6, N1}
+
+-- ---- texts
+
+-- how many bytes a source may have
+abbrev pub most_bytes : ℕ
+most_bytes = 1048576
+
+-- the text breaks this rule, and none before it
+abbrev pub Breaks : Rule → List ℕ → Type 0
+Breaks M6 text = most_bytes < length text
+Breaks N1 text = (length text ≤ most_bytes) × IsNoText text
+
+-- the refusal by a rule, with its file and place
+abbrev pub refusal_by : Rule → Refusal
+refusal_by M6 = record { rule = M6; file = 1; place = most_bytes }
+refusal_by N1 = record { rule = N1; file = 0; place = 0 }
+
+abbrev pub IsRefused : Refusal → List ℕ → Type 0
+IsRefused refusal text = (refusal ≡ refusal_by refusal.rule) × Breaks refusal.rule text
+
+-- no rule is broken, and the text is that of this program
+pub record Accepts (text : List ℕ) (program : Straight) : Type 0 where
+  pub short : length text ≤ most_bytes
+  pub spells : IsTextOf text program
+
+abbrev pub IsAccepted : List ℕ → Type 0
+IsAccepted text = (program : Straight) × Accepts text program
+
+-- some text that goes with what the shelf tells of a name is so
+abbrev pub SomeText : Told → (List ℕ → Type 0) → Type 0
+SomeText told P = (text : List ℕ) × IsFile told text × P text
+
+-- the shelf tells a text, and it is so
+abbrev pub KnownText : Told → (List ℕ → Type 0) → Type 0
+KnownText Untold P = ⊥
+KnownText Missing P = ⊥
+KnownText (Holds text) P = P text
+
+-- ---- causes
+
+-- what a call saw of its shelf: what it tells of each name, its count of faults before and now, and its failed name
+pub record Reading : Type 0 where
+  pub told : List ℕ → Told
+  pub faults_before : ℕ
+  pub faults_now : ℕ
+  pub failed_now : Option (List ℕ)
+
+-- the reading of this file failed
+pub record Failed (reading : Reading) (name : List ℕ) : Type 0 where
+  pub rose : Rose reading.faults_before reading.faults_now
+  pub failed : reading.failed_now ≡ Some name
+
+-- each answer of a command that runs this file, or of words that are no command, and why it comes
+abbrev pub Cause : Option (List ℕ) → Reading → Exit → Type 0
+Cause file reading exit.Done = IsSomeAnd file (λ name. SomeText (reading.told name) IsAccepted)
+Cause file reading (exit.Usage fault) = (fault ≡ U1) × (file ≡ None)
+Cause file reading (exit.Refused refusal) = IsSomeAnd file (λ name. SomeText (reading.told name) (IsRefused refusal))
+Cause file reading (exit.ReadFault number) = (number ≡ 1) × IsSomeAnd file (Failed reading)
+Cause file reading exit.InputFault = ⊥
+Cause file reading exit.WriteFault = IsSomeAnd file (λ name. SomeText (reading.told name) IsAccepted)
+Cause file reading exit.Memory = ⊤
+
+-- this answer, but for want of memory
+abbrev pub IsUnlessMemory : Exit → Exit → Type 0
+IsUnlessMemory answer expected = (answer ≡ expected) ⊎ (answer ≡ exit.Memory)
+
+-- ---- what a command that is done prints
+
+-- the machine after a block's run without a script, for a million instructions
+abbrev pub run_of : Code → List ℕ → Machine
+run_of code block = run code [] 1000000 (begun block)
+
+-- the full report of a block's run
+abbrev pub report_of : Machine → List ℕ
+report_of m = report_text m.output (end_of m) m.log false
+
+-- A text's report under a function for the code: the report of the run of a block of the text's program. Of that block each
+-- run, under every function, prints and returns what the program says, takes only what it signed, and enters the functions
+-- that the program calls.
+pub record IsReport (code : Code) (text report : List ℕ) : Type 0 where
+  pub program : Straight
+  pub accepts : Accepts text program
+  pub block : List ℕ
+  pub runs : Runs block program
+  pub is : report ≡ report_of (run_of code block)
+
+-- a text that goes with what the shelf tells has a report, and this is written of it
+abbrev pub Prints : Told → Code → (List ℕ → Type 0) → Type 0
+Prints told code Written = SomeText told (λ text. (report : List ℕ) × IsReport code text report × Written report)
+
+-- ---- one answer
+
+abbrev pub OnDone : Exit → Type 0 → Type 0
+OnDone exit.Done P = P
+OnDone answer P = ⊤
+
+abbrev pub OnUsage : Exit → Type 0 → Type 0
+OnUsage (exit.Usage fault) P = P
+OnUsage answer P = ⊤
+
+abbrev pub OnWriteFault : Exit → Type 0 → Type 0
+OnWriteFault exit.WriteFault P = P
+OnWriteFault answer P = ⊤
+
+abbrev pub UnlessReadFault : Exit → Type 0 → Type 0
+UnlessReadFault (exit.ReadFault number) P = ⊤
+UnlessReadFault answer P = P
+
+-- neither done nor kept from it by the sink
+abbrev pub OnStop : Exit → Type 0 → Type 0
+OnStop exit.Done P = ⊤
+OnStop exit.WriteFault P = ⊤
+OnStop answer P = P
+
+-- an answer that comes before anything is run
+abbrev pub IsStop : Exit → Type 0
+IsStop exit.Done = ⊥
+IsStop exit.WriteFault = ⊥
+IsStop answer = ⊤
+
+-- want of memory, or a rule that the text breaks
+abbrev pub IsRefusalOf : List ℕ → Exit → Type 0
+IsRefusalOf text exit.Memory = ⊤
+IsRefusalOf text (exit.Refused refusal) = IsRefused refusal text
+IsRefusalOf text answer = ⊥
+
+-- this is the output, the end and the log of the run of a block of the program
+pub record IsRunOf (code : Code) (program : Straight) (output : List ℕ) (end : End) (log : Log) : Type 0 where
+  pub block : List ℕ
+  pub runs : Runs block program
+  pub output_is : output ≡ (run_of code block).output
+  pub end_is : end ≡ end_of (run_of code block)
+  pub log_is : log ≡ (run_of code block).log

@@ -1,0 +1,6 @@
+#include <stdio.h>
+int main(void){
+putchar(72);
+putchar(105);
+return 7;
+}
