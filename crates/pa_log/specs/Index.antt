@@ -1,5 +1,5 @@
 -- The index of what was signed.
-use Rattle.std.specs.Prelude.{◌≡◌, ◌≤◌, ℕ, ◌+◌, Bool, true, false, ◌==◌, ◌&&◌, ◌||◌, List, [], ◌∷◌, length, reverse}
+use Rattle.std.specs.Prelude.{◌≡◌, Bool, false, ◌==◌, ◌&&◌, ◌||◌, List}
 use Rattle.std.specs.List.{list_any}
 use Rattle.pa_pac.specs.declared.event.Event.{Event}
 use Rattle.pa_pac.specs.declared.event.Event.TheVariants.{Sign, Take, Land}
@@ -19,6 +19,11 @@ signs signing (Land w t) = false
 -- some entry does
 abbrev pub any_signs : Signing → List Entry → Bool
 any_signs signing entries = list_any (λ entry. signs signing entry.event) entries
+
+-- the new list has what the old one has, and this one
+abbrev pub Notes : List Signing → Signing → List Signing → Type 0
+Notes old signing new =
+    (other : Signing) → list_any (same other) new ≡ (same other signing || list_any (same other) old)
 
 -- the list has what the entries sign, and nothing else
 abbrev pub IsIndex : List Signing → List Entry → Type 0

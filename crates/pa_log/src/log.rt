@@ -29,7 +29,8 @@ impl Model for Log {
 
     ghost view = { λ l. record { entries = reverse l.entries.items; spare = l.spare } };
 
-    ghost invariant = { λ l. (vec_len l.entries + l.spare ≤ vec_capacity l.entries) × (l.whole ≡ true → IsIndex l.index.keys l.entries.items) };
+    ghost invariant = { λ l. (vec_len l.entries + l.spare ≤ vec_capacity l.entries)
+        × (l.whole ≡ true → IsIndex l.index.keys l.entries.items) };
 }
 
 impl Log {
@@ -77,7 +78,8 @@ impl Log {
     /// Adds a signature: `signed` was made of `raw` under this key and modifier.
     pub fn push_sign(&mut self, when: When, key: Key, modifier: u64, raw: u64, signed: u64)
         requires { 0 < self.old.spare }
-        ensures entries { self.new.entries ≡ record { when = when; event = Event.Sign key modifier raw signed } ∷ self.old.entries }
+        ensures entries { self.new.entries ≡
+            record { when = when; event = Event.Sign key modifier raw signed } ∷ self.old.entries }
         ensures spare { self.new.spare ≡ self.old.spare - 1 }
     {
         let event = Event::Sign {
@@ -97,7 +99,8 @@ impl Log {
     pub fn push_take(&mut self, when: When, key: Key, modifier: u64, raw: u64) -> bool
         requires { 0 < self.old.spare }
         ensures known { result ≡ is_known self.old.entries key modifier raw }
-        ensures entries { self.new.entries ≡ record { when = when; event = Event.Take key modifier raw result } ∷ self.old.entries }
+        ensures entries { self.new.entries ≡
+            record { when = when; event = Event.Take key modifier raw result } ∷ self.old.entries }
         ensures spare { self.new.spare ≡ self.old.spare - 1 }
     {
         let known = self.knows(Signing::new(key, modifier, raw));

@@ -1,9 +1,9 @@
-ghost use Rattle.std.specs.Prelude.{◌≡◌, ◌<◌, ◌||◌, IsTrue};
+ghost use Rattle.std.specs.Prelude.{◌≡◌, ◌<◌, IsTrue};
 ghost use Rattle.std.specs.Bool.{OnTrue};
 ghost use Rattle.std.specs.List.{list_any};
 ghost use Rattle.indexmap.specs.IndexSet.{spare};
 ghost use Rattle.pa_pac.specs.Key.{key_number};
-ghost use Rattle.pa_log.specs.Index.{same, signs, any_signs};
+ghost use Rattle.pa_log.specs.Index.{Notes, same, signs, any_signs};
 
 use indexmap::IndexSet;
 use pa_pac::{Entry, Event, Key};
@@ -52,7 +52,7 @@ impl Signing {
 
 /// Puts the signing into the index, and answers whether it is there now. That can fail only where there was no room.
 pub fn note(index: &mut IndexSet<Signing>, signing: Signing) -> bool
-    ensures noted { OnTrue result ((other : Signing) → list_any (same other) index.new.keys ≡ (same other signing || list_any (same other) index.old.keys)) }
+    ensures noted { OnTrue result (Notes index.old.keys signing index.new.keys) }
     ensures room { 0 < spare index.old → IsTrue result }
 {
     index.insert(signing).is_ok()

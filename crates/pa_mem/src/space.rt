@@ -49,7 +49,7 @@ impl Space {
         }
     }
 
-    /// Adds a region of these bytes from `base` on.
+    /// Adds a region of these bytes from `base` on. After want of memory the regions are as before.
     pub fn add(&mut self, base: u64, bytes: Bytes, rights: Rights) -> Result<(), Memory>
         requires apart { apart_from_all (region_of base bytes rights) self.old ≡ true }
         ensures ok { OnOk result (self.new ≡ self.old ++ region_of base bytes rights ∷ []) }
@@ -61,14 +61,16 @@ impl Space {
         }
     }
 
-    /// Whether the `count` bytes from `at` on lie inside one region that has at least these rights.
+    /// Whether the `count` bytes from `at` on lie inside one region that has at least these rights. No byte at all lies
+    /// inside a region at each of its addresses and at its end.
     pub fn inside(&self, at: u64, count: u64, rights: Rights) -> bool
         ensures { result ≡ inside rights self.now at count }
     {
         self.find(at, count, rights).is_ok()
     }
 
-    /// The number that the bytes from `at` on stand for, the lowest first.
+    /// The number that the bytes from `at` on stand for, the lowest first. They have to lie in one region that may be
+    /// read.
     pub fn read(&self, at: u64, size: Size) -> Result<u64, Abort>
         ensures allowed { allowed Read self.now at (byte_count size) ≡ is_ok result }
         ensures value { IfOk result (λ value. value ≡ load (byte_count size) self.now at) }
@@ -77,7 +79,7 @@ impl Space {
         Ok(read_number(bytes, size))
     }
 
-    /// Writes the lowest bytes of `value` from `at` on, the lowest first.
+    /// Writes the lowest bytes of `value` from `at` on, the lowest first, into one region that may be written.
     pub fn write(&mut self, at: u64, size: Size, value: u64) -> Result<(), Abort>
         ensures allowed { allowed Write self.old at (byte_count size) ≡ is_ok result }
         ensures ok { OnOk result (self.new ≡ store (byte_count size) self.old at value) }
@@ -87,10 +89,11 @@ impl Space {
         self.write_bytes(at, &bytes[..size.count() as usize])
     }
 
-    /// The instruction word at `at`.
+    /// The instruction word at `at`, a multiple of 4. Its bytes have to lie in one region that may be run.
     #[tactic(auto, using(crate::proofs::Fetches::fetching, crate::proofs::Numbers::reading))]
     pub fn fetch(&self, at: u64) -> Result<u32, Abort>
-        ensures { MatchResult result (λ word. fetch self.now at ≡ Some word) (λ _. fetch self.now at ≡ None) }
+        ensures { MatchResult result (λ word. fetch self.now at ≡ Some word)
+            (λ _. fetch self.now at ≡ None) }
     {
         if at % 4 != 0 {
             return Err(Abort);
@@ -99,7 +102,7 @@ impl Space {
         Ok(LittleEndian::read_u32(bytes))
     }
 
-    /// The `count` bytes from `at` on, to be read.
+    /// The `count` bytes from `at` on, which have to lie in one region that may be read.
     pub fn read_bytes(&self, at: u64, count: u64) -> Result<&[u8], Abort>
         ensures allowed { allowed Read self.now at count ≡ is_ok result }
         ensures value { IfOk result (λ bytes. bytes.now ≡ bytes_at count self.now at) }
@@ -107,7 +110,7 @@ impl Space {
         self.slice(at, count, Rights::READ)
     }
 
-    /// Writes these bytes from `at` on.
+    /// Writes these bytes from `at` on, into one region that may be written.
     pub fn write_bytes(&mut self, at: u64, bytes: &[u8]) -> Result<(), Abort>
         ensures allowed { allowed Write self.old at (length bytes.now) ≡ is_ok result }
         ensures ok { OnOk result (self.new ≡ with_bytes self.old at bytes.now) }

@@ -1,4 +1,4 @@
-use Rattle.std.proofs.Common.{◌≡◌, ap, sym, ◌∙◌}
+use Rattle.std.proofs.Common.{ap, sym, ◌∙◌}
 use Rattle.pa_log.specs.Index.{any_signs}
 use Rattle.pa_log.proofs.Known.{any_signs-reverse}
 use Rattle.pa_log.proofs.log.Log.knows.Goals as goal
