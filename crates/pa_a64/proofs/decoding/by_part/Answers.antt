@@ -19,9 +19,9 @@ returns-in-5 c = c.register.ensures ∙ whole_table register_rows 25 4 (0b0101 �
 pub returns-in_default : goal.returns-in_default
 returns-in_default c =
     none_in_table 25 4 ((0b1000 ∷ 0b1001 ∷ []) ∷ (0b1010 ∷ 0b1011 ∷ []) ∷ (0b0100 ∷ 0b0110 ∷ 0b1100 ∷ 0b1110 ∷ []) ∷ (0b0101 ∷ 0b1101 ∷ []) ∷ []) refl c.args.word c.get.ensures.value
-        (grind arith, (grind arith, (grind arith, (grind arith, tt))))
+    (grind arith, (grind arith, (grind arith, (grind arith, tt))))
 
 pub returns-in_default-2 : goal.returns-in_default-2
 returns-in_default-2 c =
     none_in_table 25 4 ((0b1000 ∷ 0b1001 ∷ []) ∷ (0b1010 ∷ 0b1011 ∷ []) ∷ (0b0100 ∷ 0b0110 ∷ 0b1100 ∷ 0b1110 ∷ []) ∷ (0b0101 ∷ 0b1101 ∷ []) ∷ []) refl c.args.word c.get.ensures.value
-        (grind arith, (grind arith, (grind arith, (grind arith, tt))))
+    (grind arith, (grind arith, (grind arith, (grind arith, tt))))
