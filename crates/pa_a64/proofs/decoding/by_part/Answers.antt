@@ -1,5 +1,5 @@
 -- Bits 28 to 25 leave the rows of one part, or none.
-use Rattle.std.proofs.Common.{◌≡◌, ℕ, [], ◌∷◌, refl, ◌∙◌, arith}
+use Rattle.std.proofs.Common.{[], ◌∷◌, refl, ◌∙◌, arith}
 use Rattle.pa_a64.specs.Table.{branch_rows, immediate_rows, memory_rows, register_rows}
 use Rattle.pa_a64.proofs.Rows.{whole_table, none_in_table}
 use Rattle.pa_a64.proofs.decoding.by_part.Goals as goal

@@ -1,5 +1,5 @@
 -- Each arm gives the one row that is left, or none is left.
-use Rattle.std.proofs.Common.{◌≡◌, ◌≢◌, ℕ, ◌+◌, ◌*◌, ◌%◌, ◌<◌, ◌^◌, ◌∙◌, eqb, false, List, [], ◌∷◌, Some, None, refl, sym, ap, bit_and, arith, rules, w8, w16, w32, lit≤}
+use Rattle.std.proofs.Common.{◌≡◌, ◌≢◌, ℕ, ◌<◌, ◌^◌, eqb, false, List, [], ◌∷◌, Some, None, refl, sym, ap, bit_and, arith, rules, w8, w16, lit≤}
 use Rattle.pa_num.specs.Bits.{field}
 use Rattle.pa_a64.specs.declared.instr.Instr.{Instr}
 use Rattle.pa_a64.specs.declared.instr.LoadStoreByteOp.{LoadStoreByteOp}
@@ -8,11 +8,11 @@ use Rattle.pa_a64.specs.declared.instr.LoadStoreOp.{LoadStoreOp}
 use Rattle.pa_a64.specs.declared.instr.LoadStorePairOp.{LoadStorePairOp}
 use Rattle.pa_a64.specs.declared.instr.LoadStoreUnscaledOp.{LoadStoreUnscaledOp}
 use Rattle.pa_a64.specs.declared.instr.LoadStoreWordOp.{LoadStoreWordOp}
-use Rattle.pa_a64.specs.Decoding.{decoded_among, instruction, signed_of_bits}
+use Rattle.pa_a64.specs.Decoding.{decoded_among, instruction}
 use Rattle.pa_a64.specs.Parts.{fixed}
 use Rattle.pa_a64.specs.Table.{Row, parts, memory_rows}
 use Rattle.pa_a64.proofs.Rows.{found, Outside, row_at, line_places, next, memory_distinct, none_left, none_listed, not_by_row, not_ldp}
-use Rattle.pa_a64.proofs.TwosComplement.{signed-got, signed-narrowed}
+use Rattle.pa_a64.proofs.TwosComplement.{signed-narrowed}
 use Rattle.pa_a64.proofs.Words.{mask, gets}
 use Rattle.pa_a64.proofs.decoding.memory.Goals as goal
 

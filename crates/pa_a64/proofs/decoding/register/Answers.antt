@@ -1,5 +1,5 @@
 -- Each arm gives the one row that is left, or none is left.
-use Rattle.std.proofs.Common.{◌≡◌, ◌≢◌, ℕ, ◌+◌, ◌*◌, ◌%◌, ◌<◌, ◌^◌, ◌∙◌, eqb, false, List, [], ◌∷◌, Some, None, refl, sym, ap, bit_and, arith, rules, w8, w16, w32, lit≤}
+use Rattle.std.proofs.Common.{◌≡◌, ◌≢◌, ℕ, ◌<◌, ◌^◌, List, [], ◌∷◌, Some, None, refl, bit_and, arith}
 use Rattle.pa_num.specs.Bits.{field}
 use Rattle.pa_a64.specs.declared.instr.Instr.{Instr}
 use Rattle.pa_a64.specs.declared.instr.AuthenticateOp.{AuthenticateOp}
@@ -10,11 +10,10 @@ use Rattle.pa_a64.specs.declared.instr.PlainOp.{PlainOp}
 use Rattle.pa_a64.specs.declared.instr.ShiftOp.{ShiftOp}
 use Rattle.pa_a64.specs.declared.instr.SignOp.{SignOp}
 use Rattle.pa_a64.specs.declared.instr.SumOp.{SumOp}
-use Rattle.pa_a64.specs.Decoding.{decoded_among, instruction, signed_of_bits}
+use Rattle.pa_a64.specs.Decoding.{decoded_among, instruction}
 use Rattle.pa_a64.specs.Parts.{fixed}
 use Rattle.pa_a64.specs.Table.{Row, parts, register_rows}
-use Rattle.pa_a64.proofs.Rows.{found, Outside, row_at, line_places, next, register_distinct, none_left, none_listed, not_by_row, not_ldp}
-use Rattle.pa_a64.proofs.TwosComplement.{signed-got, signed-narrowed}
+use Rattle.pa_a64.proofs.Rows.{found, Outside, row_at, line_places, next, register_distinct, none_left, none_listed, not_by_row}
 use Rattle.pa_a64.proofs.Words.{mask, gets}
 use Rattle.pa_a64.proofs.decoding.register.Goals as goal
 

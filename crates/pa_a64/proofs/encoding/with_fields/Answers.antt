@@ -1,5 +1,5 @@
 -- The fields of each line, put one after the other into the fixed bits of its row, make the word.
-use Rattle.std.proofs.Common.{◌≡◌, refl, ◌∙◌, rules, w8, w16, w32, SFits}
+use Rattle.std.proofs.Common.{refl, ◌∙◌, rules, w8, w16, w32, SFits}
 use Rattle.pa_a64.proofs.TwosComplement.{bits-passed, bits-widened}
 use Rattle.pa_a64.proofs.RoundTrip.{encoded-puts, then_put, bit_of-bool, pages_above, pages_below}
 use Rattle.pa_a64.proofs.encoding.with_fields.Goals as goal
