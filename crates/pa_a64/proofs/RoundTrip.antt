@@ -1,40 +1,17 @@
 -- Instructions and the words of their rows, both ways.
-use Rattle.std.proofs.Common.{◌≡◌, ◌≢◌, ℕ, ◌+◌, ◌-◌, ◌*◌, ◌/◌, ◌%◌, ◌^◌, ◌<◌, ◌≤◌, List, [], ◌∷◌, Option, Some, None, refl, sym, ap, subst, ◌∙◌, arith, rules, lit≤, lit<}
-use Rattle.std.specs.Prelude.{Bool, true, false, cond, not, eqb, ltb, IsTrue, ℤ}
+use Rattle.std.proofs.Common.{◌≡◌, ◌≢◌, ℕ, ◌+◌, ◌*◌, ◌/◌, ◌%◌, ◌^◌, ◌<◌, List, [], ◌∷◌, Option, Some, None, refl, sym, ap, subst, ◌∙◌, arith, rules, lit≤, lit<}
+use Rattle.std.specs.Prelude.{Bool, true, false, cond, eqb, IsTrue}
 use mir.Val.{bool_byte}
 use Rattle.std.proofs.lemmas.Bool.{eqb-true, eq-eqb, false≢true, and_parts, ltb-true}
 use Rattle.std.proofs.lemmas.Nat.{pow-add, mul-add-lt}
 use Rattle.pa_num.specs.Bits.{field, with_field}
 use Rattle.pa_a64.specs.declared.instr.Instr.{Instr}
-use Rattle.pa_a64.specs.declared.instr.AuthenticateOp.{AuthenticateOp}
-use Rattle.pa_a64.specs.declared.instr.BitfieldOp.{BitfieldOp}
-use Rattle.pa_a64.specs.declared.instr.BranchOp.{BranchOp}
-use Rattle.pa_a64.specs.declared.instr.BranchAuthenticatedOp.{BranchAuthenticatedOp}
-use Rattle.pa_a64.specs.declared.instr.BranchRegisterOp.{BranchRegisterOp}
-use Rattle.pa_a64.specs.declared.instr.CompareBranchOp.{CompareBranchOp}
-use Rattle.pa_a64.specs.declared.instr.DivideOp.{DivideOp}
-use Rattle.pa_a64.specs.declared.instr.ExceptionOp.{ExceptionOp}
-use Rattle.pa_a64.specs.declared.instr.LoadStoreOp.{LoadStoreOp}
-use Rattle.pa_a64.specs.declared.instr.LoadStoreByteOp.{LoadStoreByteOp}
-use Rattle.pa_a64.specs.declared.instr.LoadStoreHalfOp.{LoadStoreHalfOp}
-use Rattle.pa_a64.specs.declared.instr.LoadStorePairOp.{LoadStorePairOp}
-use Rattle.pa_a64.specs.declared.instr.LoadStoreUnscaledOp.{LoadStoreUnscaledOp}
-use Rattle.pa_a64.specs.declared.instr.LoadStoreWordOp.{LoadStoreWordOp}
-use Rattle.pa_a64.specs.declared.instr.LogicalOp.{LogicalOp}
-use Rattle.pa_a64.specs.declared.instr.MoveWideOp.{MoveWideOp}
-use Rattle.pa_a64.specs.declared.instr.MultiplyAddOp.{MultiplyAddOp}
-use Rattle.pa_a64.specs.declared.instr.PlainOp.{PlainOp}
-use Rattle.pa_a64.specs.declared.instr.ShiftOp.{ShiftOp}
-use Rattle.pa_a64.specs.declared.instr.SignOp.{SignOp}
-use Rattle.pa_a64.specs.declared.instr.StackOp.{StackOp}
-use Rattle.pa_a64.specs.declared.instr.SumOp.{SumOp}
-use Rattle.pa_a64.specs.declared.instr.SumImmediateOp.{SumImmediateOp}
-use Rattle.pa_a64.specs.Decoding.{decoded, decoded_among, decoded_by, encoded, instruction, instruction_of, or_else, row, values, InRange, IsSigned, bits_of_signed, signed_of_bits, bit_of, is_pair}
+use Rattle.pa_a64.specs.Decoding.{decoded, decoded_among, decoded_by, encoded, instruction, instruction_of, or_else, row, values, InRange, bits_of_signed, signed_of_bits, bit_of, is_pair}
 use Rattle.pa_a64.specs.Parts.{Part, Fixed, Field, word, fields, fixed}
 use Rattle.pa_a64.specs.Table.{Row, parts, rows}
 use Rattle.pa_a64.proofs.Rows.{found_in_table, row_fits, total-parts, line_places, places_of-parts}
 use Rattle.pa_a64.proofs.TwosComplement.{bits_fit, IsSigned-signed, signed-bits, bits-signed}
-use Rattle.pa_a64.proofs.Words.{Place, At, places_of, puts, Fit, fixed_fit, total, fields_word, word-fields, word_from_puts}
+use Rattle.pa_a64.proofs.Words.{places_of, puts, Fit, fixed_fit, total, fields_word, word-fields, word_from_puts}
 
 bit_fits : (b : Bool) → bit_of b < 2 ^ 1
 bit_fits false = omega arith

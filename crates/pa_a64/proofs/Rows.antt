@@ -1,6 +1,6 @@
 -- Rows and words: each word is of one row at most, and a row that a word is of is found.
-use Rattle.std.proofs.Common.{◌≡◌, ◌≢◌, ℕ, zero, suc, ◌+◌, ◌-◌, ◌*◌, ◌/◌, ◌%◌, ◌^◌, ◌<◌, ◌≤◌, ◌⊎◌, inl, inr, List, [], ◌∷◌, ◌++◌, refl, sym, ap, subst, ◌∙◌, arith, Option, Some, None, lit<, bit_and}
-use Rattle.std.specs.Prelude.{Bool, true, false, cond, not, ◌&&◌, ◌||◌, eqb, ltb}
+use Rattle.std.proofs.Common.{◌≡◌, ◌≢◌, ℕ, zero, suc, ◌+◌, ◌*◌, ◌/◌, ◌%◌, ◌^◌, ◌<◌, ◌⊎◌, inl, inr, List, [], ◌∷◌, refl, sym, ap, subst, ◌∙◌, arith, Option, Some, None, lit<, bit_and}
+use Rattle.std.specs.Prelude.{Bool, true, false, cond, not, ◌&&◌, ◌||◌, eqb}
 use Rattle.std.proofs.lemmas.Bool.{and_parts, eqb-true, eq-eqb, ne_eqb, true≢false}
 use Rattle.std.proofs.Math.Nat.{pow-suc, pow-succ', div-div-eq-div-mul}
 use Rattle.std.proofs.Math.Arith.{mod-mul}
@@ -346,7 +346,6 @@ places_of-parts (Plain PlainOp.Paciza) = refl
 places_of-parts (Exception ExceptionOp.Svc) = refl
 places_of-parts _ = refl
 
-
 -- a word with a row's fixed bits is of that row
 pub by_row : (r : Row) (w : ℕ) → w < 2 ^ 32 → bit_and w (mask (parts r)) ≡ fixed (parts r) → decoded_by r w ≡ instruction r (gets (line_places r) w)
 unfolding decoded_by
@@ -513,6 +512,7 @@ among-unlisted low length vss rs w all h = among-narrowed low length (field low 
     nil =
         let e = listed_at low length vss rs (2 ^ length) (field low length w) (mod_below (w / 2 ^ low) (2 ^ length) (pow_pos length)) all in
         subst (λ z. (z || is_nil (narrowed low length (field low length w ∷ []) rs)) ≡ true) (not_some_lists vss (field low length w) h) e
+
     go : (qs : List Row) → is_nil qs ≡ true → decoded_among qs w ≡ None
     go [] e = refl
     go (q ∷ qs) e = cc

@@ -1,11 +1,10 @@
 -- Signed fields as two's complement of their width.
 use Rattle.std.proofs.Common.{◌≡◌, ℕ, suc, ◌+◌, ◌-◌, ◌*◌, ◌/◌, ◌%◌, ◌^◌, ◌<◌, ◌≤◌, ℤ, refl, sym, ap, subst, ◌∙◌, arith, w32, w64, to_z, of_z, SFits}
 use mir.Val.{hbits}
-use Rattle.std.specs.Prelude.{Bool, true, false, cond, eqb, ltb, pos, negsuc}
-use Rattle.std.specs.Int.{bit_at}
+use Rattle.std.specs.Prelude.{Bool, true, false, cond, ltb, pos, negsuc}
 use mir.Syntax.{Width}
 use Rattle.std.proofs.lemmas.Int.{to_z-of_z}
-use Rattle.std.proofs.lemmas.Bool.{ltb-true, ltb-false, eq-eqb, ne_eqb, lt-ltb, le-ltb}
+use Rattle.std.proofs.lemmas.Bool.{ltb-true, ltb-false, lt-ltb, le-ltb}
 use Rattle.std.proofs.lemmas.Nat.{pow_pos, pow-add, mod_low, shr_high}
 use Rattle.std.proofs.Math.Nat.{mod-eq_of_lt, pow-le-pow_right}
 use Rattle.pa_num.specs.Bits.{truncated, sign_extended}

@@ -2,12 +2,7 @@ ghost use Rattle.std.specs.Prelude.{◌≡◌, ◌^◌, ◌<◌, ◌↔◌, None
 ghost use Rattle.pa_a64.specs.Decoding.{decoded, decoded_among, decoded_by, encoded, InRange};
 ghost use Rattle.pa_a64.specs.Table.{Row, branch_rows, immediate_rows, memory_rows, register_rows};
 
-use crate::instr::{
-    AuthenticateOp, BitfieldOp, BranchAuthenticatedOp, BranchOp, BranchRegisterOp, CompareBranchOp,
-    DivideOp, ExceptionOp, Instr, LoadStoreByteOp, LoadStoreHalfOp, LoadStoreOp, LoadStorePairOp,
-    LoadStoreUnscaledOp, LoadStoreWordOp, LogicalOp, MoveWideOp, MultiplyAddOp, PlainOp, ShiftOp,
-    SignOp, StackOp, SumImmediateOp, SumOp,
-};
+use crate::instr::*;
 use crate::signed::from_bits;
 use crate::table::table;
 use pa_num::Field;
@@ -29,6 +24,7 @@ macro_rules! get {
     }};
 }
 
+// The value of this type for the number in a field.
 macro_rules! value_of {
     (bool, $bits:expr, $length:expr) => { $bits == 1 };
     (i8, $bits:expr, $length:expr) => { from_bits($bits, $length) as i8 };
@@ -37,7 +33,7 @@ macro_rules! value_of {
     ($kind:ident, $bits:expr, $length:expr) => { $bits as $kind };
 }
 
-// The instruction of the first line whose fixed bits a word has: its fields cleared, a word of a row is the row's.
+// The instruction of the first line of which a word has a row's fixed bits, all that are in no field.
 macro_rules! first_line {
     ($word:ident) => { None };
     ($word:ident $line:ident = $base:literal { $($field:ident : $kind:ident $place:tt;)* } $($rest:tt)*) => {
@@ -59,7 +55,7 @@ macro_rules! first_line {
     }};
 }
 
-// A part of the table, by the highest byte of the word.
+// The instruction of a word by the lines of its highest byte.
 macro_rules! by_top {
     ($word:ident $( [$($top:literal)|+] { $($lines:tt)* } )*) => {
         match Field::<24, 8>::get($word) {
@@ -69,6 +65,7 @@ macro_rules! by_top {
     };
 }
 
+// The same by one part of the table.
 macro_rules! part {
     (immediate, $word:ident; immediate { $($lines:tt)* } $($rest:tt)*) => { by_top!($word $($lines)*) };
     (register, $word:ident; immediate $i:tt register { $($lines:tt)* } $($rest:tt)*) => { by_top!($word $($lines)*) };
@@ -76,6 +73,7 @@ macro_rules! part {
     (branch, $word:ident; immediate $i:tt register $r:tt memory $m:tt branch { $($lines:tt)* }) => { by_top!($word $($lines)*) };
 }
 
+// Data processing with an immediate.
 fn immediate(word: u64) -> Option<Instr>
     requires { word < 2 ^ 32 }
     ensures { result ≡ decoded_among immediate_rows word }
@@ -83,6 +81,7 @@ fn immediate(word: u64) -> Option<Instr>
     table!(part, immediate, word)
 }
 
+// Data processing with registers.
 fn register(word: u64) -> Option<Instr>
     requires { word < 2 ^ 32 }
     ensures { result ≡ decoded_among register_rows word }
@@ -90,6 +89,7 @@ fn register(word: u64) -> Option<Instr>
     table!(part, register, word)
 }
 
+// Loads and stores.
 fn memory(word: u64) -> Option<Instr>
     requires { word < 2 ^ 32 }
     ensures { result ≡ decoded_among memory_rows word }
@@ -97,6 +97,7 @@ fn memory(word: u64) -> Option<Instr>
     table!(part, memory, word)
 }
 
+// Branches, exceptions and hints.
 fn branch(word: u64) -> Option<Instr>
     requires { word < 2 ^ 32 }
     ensures { result ≡ decoded_among branch_rows word }
@@ -104,7 +105,7 @@ fn branch(word: u64) -> Option<Instr>
     table!(part, branch, word)
 }
 
-// The parts of the table by bits 28 to 25, as in the manual's first table of the A64 encoding.
+// Bits 28 to 25 name the part, as in the manual's first table of the A64 encoding.
 fn by_part(word: u64) -> Option<Instr>
     requires { word < 2 ^ 32 }
     ensures { result ≡ decoded word }

@@ -3,12 +3,7 @@ ghost use Rattle.pa_a64.specs.Decoding.{decoded, encoded, row, InRange};
 ghost use Rattle.pa_a64.specs.Parts.{fixed};
 ghost use Rattle.pa_a64.specs.Table.{parts};
 
-use crate::instr::{
-    AuthenticateOp, BitfieldOp, BranchAuthenticatedOp, BranchOp, BranchRegisterOp, CompareBranchOp,
-    DivideOp, ExceptionOp, Instr, LoadStoreByteOp, LoadStoreHalfOp, LoadStoreOp, LoadStorePairOp,
-    LoadStoreUnscaledOp, LoadStoreWordOp, LogicalOp, MoveWideOp, MultiplyAddOp, PlainOp, ShiftOp,
-    SignOp, StackOp, SumImmediateOp, SumOp,
-};
+use crate::instr::*;
 use crate::signed::{is_signed, to_bits};
 use crate::table::table;
 use pa_num::Field;
@@ -23,6 +18,7 @@ macro_rules! fits {
     ($kind:ident, [$low:literal, $length:literal], $value:expr) => { u64::from($value) < 1 << $length };
 }
 
+// The fields of each line fit, and where a row has a condition it holds.
 macro_rules! lines_in_range {
     ($instr:ident; $( $part:ident { $( [$($top:tt)*] {
         $( $line:ident $(= $word:literal)? $($op:ident : $ops:ident [ $($row:ident = $base:literal $(if $guard:expr)?),* ])?
@@ -45,6 +41,7 @@ pub fn in_range(instr: Instr) -> bool
     table!(lines_in_range, instr)
 }
 
+// The fixed bits of each row.
 macro_rules! fixed_bits_of_lines {
     ($instr:ident; $( $part:ident { $( [$($top:tt)*] {
         $( $line:ident $(= $word:literal)? $($op:ident : $ops:ident [ $($row:ident = $base:literal $(if $guard:expr)?),* ])? { $($fields:tt)* } )*
@@ -72,6 +69,7 @@ macro_rules! bits_of {
     ($kind:ident, $length:expr, $value:expr) => { u64::from($value) };
 }
 
+// The word with a value of this type in a field.
 macro_rules! put {
     ($word:expr, $kind:ident, [$low:literal, $length:literal], $value:expr) => {
         Field::<$low, $length>::put($word, bits_of!($kind, $length, $value))
@@ -83,6 +81,7 @@ macro_rules! put {
     }};
 }
 
+// The word with the fields of each line put into it, from bit 0 up.
 macro_rules! put_fields {
     ($instr:ident, $word:ident; $( $part:ident { $( [$($top:tt)*] {
         $( $line:ident $(= $only:literal)? $($op:ident : $rows:tt $list:tt)? { $($field:ident : $kind:ident $place:tt;)* } )*

@@ -1,12 +1,13 @@
-//! The A64 instructions of the machine: one table of rows, from words to instructions and back.
+//! The A64 instructions of the machine: one table of rows, from instructions to words and back.
 #![tactic(auto)]
 
 mod decoding;
 mod encoding;
 mod instr;
-
 mod signed;
 mod table;
+#[cfg(test)]
+mod tests;
 
 pub use decoding::decode;
 pub use encoding::{encode, in_range};

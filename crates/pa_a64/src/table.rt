@@ -1,5 +1,8 @@
-// The table: in each part, the highest bytes of words and the lines that such words may be of. A line is a variant of
-// `Instr`, its rows with their fixed bits, and its fields from bit 0 up: type, lowest bit, width.
+// The table of rows, once for both directions: `table!(macro, arguments)` hands it to a macro.
+//
+// It has four parts. In each, a list of highest bytes of a word stands before the lines that such a word may be of. A line
+// is a variant of `Instr`; its one row with its fixed bits, or its rows by name; and its fields from bit 0 up, each with its
+// type and its place: lowest bit and width, and for a field in two pieces those of the upper piece and then of the lower.
 macro_rules! table {
     ($go:ident, $($given:ident),*) => {
         $go! { $($given),*;

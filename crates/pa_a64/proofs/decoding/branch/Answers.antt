@@ -1,5 +1,5 @@
 -- Each arm gives the one row that is left, or none is left.
-use Rattle.std.proofs.Common.{◌≡◌, ◌≢◌, ℕ, ◌+◌, ◌*◌, ◌%◌, ◌<◌, ◌^◌, ◌∙◌, eqb, false, List, [], ◌∷◌, Some, None, refl, sym, ap, bit_and, arith, rules, w8, w16, w32, lit≤}
+use Rattle.std.proofs.Common.{◌≡◌, ◌≢◌, ℕ, ◌<◌, ◌^◌, List, [], ◌∷◌, Some, None, refl, sym, ap, bit_and, arith, w32, lit≤}
 use Rattle.pa_num.specs.Bits.{field}
 use Rattle.pa_a64.specs.declared.instr.Instr.{Instr}
 use Rattle.pa_a64.specs.declared.instr.BranchAuthenticatedOp.{BranchAuthenticatedOp}
@@ -8,11 +8,11 @@ use Rattle.pa_a64.specs.declared.instr.BranchRegisterOp.{BranchRegisterOp}
 use Rattle.pa_a64.specs.declared.instr.CompareBranchOp.{CompareBranchOp}
 use Rattle.pa_a64.specs.declared.instr.ExceptionOp.{ExceptionOp}
 use Rattle.pa_a64.specs.declared.instr.StackOp.{StackOp}
-use Rattle.pa_a64.specs.Decoding.{decoded_among, instruction, signed_of_bits}
+use Rattle.pa_a64.specs.Decoding.{decoded_among, instruction}
 use Rattle.pa_a64.specs.Parts.{fixed}
 use Rattle.pa_a64.specs.Table.{Row, parts, branch_rows}
-use Rattle.pa_a64.proofs.Rows.{found, Outside, row_at, line_places, next, branch_distinct, none_left, none_listed, not_by_row, not_ldp}
-use Rattle.pa_a64.proofs.TwosComplement.{signed-got, signed-narrowed}
+use Rattle.pa_a64.proofs.Rows.{found, Outside, row_at, line_places, next, branch_distinct, none_left, none_listed, not_by_row}
+use Rattle.pa_a64.proofs.TwosComplement.{signed-got}
 use Rattle.pa_a64.proofs.Words.{mask, gets}
 use Rattle.pa_a64.proofs.decoding.branch.Goals as goal
 
@@ -27,7 +27,7 @@ returns-in_default-2 c =
     let svc : bit_and c.args.word 0xffe0_001f ≢ 0xd400_0001 = omega arith in
     let brk : bit_and c.args.word 0xffe0_001f ≢ 0xd420_0000 = omega arith in
     none_left branch_rows 24 8 (0xd4 ∷ []) c.args.word c.get.ensures.value c.in-212.is
-        (not_by_row _ _ svc, (not_by_row _ _ brk, tt))
+    (not_by_row _ _ svc, (not_by_row _ _ brk, tt))
 
 pub returns-in_default-3 : goal.returns-in_default-3
 returns-in_default-3 c =
@@ -35,7 +35,7 @@ returns-in_default-3 c =
     let blraa : bit_and c.args.word 0xffff_fc00 ≢ 0xd73f_0800 = omega arith in
     let blrab : bit_and c.args.word 0xffff_fc00 ≢ 0xd73f_0c00 = omega arith in
     none_left branch_rows 24 8 (0xd7 ∷ []) c.args.word c.get.ensures.value c.in-215.is
-        (not_by_row _ _ braa, (not_by_row _ _ blraa, (not_by_row _ _ blrab, tt)))
+    (not_by_row _ _ braa, (not_by_row _ _ blraa, (not_by_row _ _ blrab, tt)))
 
 pub returns-then-word-eq3594455071 : goal.returns-then-word-eq3594455071
 returns-then-word-eq3594455071 c = here 14 Row.Blraaz refl c.requires c.if-word-eq3594455071.true (next c.get-rn-then-word-eq3594455071.ensures.value refl) refl
@@ -51,7 +51,7 @@ returns-else-word-eq3594455071 c =
     let ret : bit_and c.args.word 0xffff_fc1f ≢ 0xd65f_0000 = omega arith in
     let blraaz : bit_and c.args.word 0xffff_fc1f ≢ 0xd63f_081f = omega arith in
     none_left branch_rows 24 8 (0xd5 ∷ 0xd6 ∷ []) c.args.word c.get.ensures.value (grind arith)
-        (not_by_row _ _ nop, (not_by_row _ _ retab, (not_by_row _ _ pacibsp, (not_by_row _ _ autibsp, (not_by_row _ _ br, (not_by_row _ _ blr, (not_by_row _ _ ret, (not_by_row _ _ blraaz, tt))))))))
+    (not_by_row _ _ nop, (not_by_row _ _ retab, (not_by_row _ _ pacibsp, (not_by_row _ _ autibsp, (not_by_row _ _ br, (not_by_row _ _ blr, (not_by_row _ _ ret, (not_by_row _ _ blraaz, tt))))))))
 
 pub returns-in-3592355840 : goal.returns-in-3592355840
 returns-in-3592355840 c = here 11 (Row.BranchRegister BranchRegisterOp.Br) refl c.requires c.in-3592355840.is (next c.get-rn-in_default-5.ensures.value refl) refl
@@ -71,7 +71,7 @@ pub returns-else-word-eq1409286144 : goal.returns-else-word-eq1409286144
 returns-else-word-eq1409286144 c =
     let branchconditional : bit_and c.args.word 0xff00_0010 ≢ 0x5400_0000 = omega arith in
     none_left branch_rows 24 8 (0x54 ∷ []) c.args.word c.get.ensures.value c.in-84.is
-        (not_by_row _ _ branchconditional, tt)
+    (not_by_row _ _ branchconditional, tt)
 
 pub returns-in-3556769793 : goal.returns-in-3556769793
 returns-in-3556769793 c = here 5 (Row.Exception ExceptionOp.Svc) refl c.requires c.in-3556769793.is (next c.get-imm.ensures.value refl) refl
@@ -134,4 +134,3 @@ returns-in_default-9 c = nothing c.args.word c.get.ensures.value (grind arith, (
 
 pub returns-in_default-5 : goal.returns-in_default-5
 returns-in_default-5 c = nothing c.args.word c.get.ensures.value (grind arith, (grind arith, (grind arith, (grind arith, (grind arith, (grind arith, tt))))))
-

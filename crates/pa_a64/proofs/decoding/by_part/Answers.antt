@@ -1,5 +1,5 @@
 -- Bits 28 to 25 leave the rows of one part, or none.
-use Rattle.std.proofs.Common.{◌≡◌, ℕ, [], ◌∷◌, refl, ◌∙◌, arith}
+use Rattle.std.proofs.Common.{[], ◌∷◌, refl, ◌∙◌, arith}
 use Rattle.pa_a64.specs.Table.{branch_rows, immediate_rows, memory_rows, register_rows}
 use Rattle.pa_a64.proofs.Rows.{whole_table, none_in_table}
 use Rattle.pa_a64.proofs.decoding.by_part.Goals as goal
@@ -19,9 +19,9 @@ returns-in-5 c = c.register.ensures ∙ whole_table register_rows 25 4 (0b0101 �
 pub returns-in_default : goal.returns-in_default
 returns-in_default c =
     none_in_table 25 4 ((0b1000 ∷ 0b1001 ∷ []) ∷ (0b1010 ∷ 0b1011 ∷ []) ∷ (0b0100 ∷ 0b0110 ∷ 0b1100 ∷ 0b1110 ∷ []) ∷ (0b0101 ∷ 0b1101 ∷ []) ∷ []) refl c.args.word c.get.ensures.value
-        (grind arith, (grind arith, (grind arith, (grind arith, tt))))
+    (grind arith, (grind arith, (grind arith, (grind arith, tt))))
 
 pub returns-in_default-2 : goal.returns-in_default-2
 returns-in_default-2 c =
     none_in_table 25 4 ((0b1000 ∷ 0b1001 ∷ []) ∷ (0b1010 ∷ 0b1011 ∷ []) ∷ (0b0100 ∷ 0b0110 ∷ 0b1100 ∷ 0b1110 ∷ []) ∷ (0b0101 ∷ 0b1101 ∷ []) ∷ []) refl c.args.word c.get.ensures.value
-        (grind arith, (grind arith, (grind arith, (grind arith, tt))))
+    (grind arith, (grind arith, (grind arith, (grind arith, tt))))

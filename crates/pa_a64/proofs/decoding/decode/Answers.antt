@@ -24,11 +24,10 @@ result : (c : After-by_part) → c.by_part.result ≡ decoded c.args.word
 result c = c.by_part.ensures ∙ ap decoded c.from.ensures
 
 pub returns-clause-none : goal.returns-clause-none
-returns-clause-none c =
-    (
-        λ n r. none_by_row r c.args.word (sym (result c) ∙ is_none c.by_part.result n),
-        λ h. subst IsNone (sym (result c ∙ none_of_rows c.args.word h)) refl
-    )
+returns-clause-none c = (
+  λ n r. none_by_row r c.args.word (sym (result c) ∙ is_none c.by_part.result n),
+  λ h. subst IsNone (sym (result c ∙ none_of_rows c.args.word h)) refl,
+)
 
 pub returns-clause-back : goal.returns-clause-back
 returns-clause-back c = if_some c.by_part.result c.args.word (result c)

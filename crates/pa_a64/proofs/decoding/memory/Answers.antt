@@ -1,5 +1,5 @@
 -- Each arm gives the one row that is left, or none is left.
-use Rattle.std.proofs.Common.{◌≡◌, ◌≢◌, ℕ, ◌+◌, ◌*◌, ◌%◌, ◌<◌, ◌^◌, ◌∙◌, eqb, false, List, [], ◌∷◌, Some, None, refl, sym, ap, bit_and, arith, rules, w8, w16, w32, lit≤}
+use Rattle.std.proofs.Common.{◌≡◌, ◌≢◌, ℕ, ◌<◌, ◌^◌, eqb, false, List, [], ◌∷◌, Some, None, refl, sym, ap, bit_and, arith, rules, w8, w16, lit≤}
 use Rattle.pa_num.specs.Bits.{field}
 use Rattle.pa_a64.specs.declared.instr.Instr.{Instr}
 use Rattle.pa_a64.specs.declared.instr.LoadStoreByteOp.{LoadStoreByteOp}
@@ -8,11 +8,11 @@ use Rattle.pa_a64.specs.declared.instr.LoadStoreOp.{LoadStoreOp}
 use Rattle.pa_a64.specs.declared.instr.LoadStorePairOp.{LoadStorePairOp}
 use Rattle.pa_a64.specs.declared.instr.LoadStoreUnscaledOp.{LoadStoreUnscaledOp}
 use Rattle.pa_a64.specs.declared.instr.LoadStoreWordOp.{LoadStoreWordOp}
-use Rattle.pa_a64.specs.Decoding.{decoded_among, instruction, signed_of_bits}
+use Rattle.pa_a64.specs.Decoding.{decoded_among, instruction}
 use Rattle.pa_a64.specs.Parts.{fixed}
 use Rattle.pa_a64.specs.Table.{Row, parts, memory_rows}
 use Rattle.pa_a64.proofs.Rows.{found, Outside, row_at, line_places, next, memory_distinct, none_left, none_listed, not_by_row, not_ldp}
-use Rattle.pa_a64.proofs.TwosComplement.{signed-got, signed-narrowed}
+use Rattle.pa_a64.proofs.TwosComplement.{signed-narrowed}
 use Rattle.pa_a64.proofs.Words.{mask, gets}
 use Rattle.pa_a64.proofs.decoding.memory.Goals as goal
 
@@ -27,7 +27,7 @@ returns-in_default-2 c =
     let ldr : bit_and c.args.word 0xffc0_0000 ≢ 0xf940_0000 = omega arith in
     let str : bit_and c.args.word 0xffc0_0000 ≢ 0xf900_0000 = omega arith in
     none_left memory_rows 24 8 (0xf9 ∷ []) c.args.word c.get.ensures.value c.in-249.is
-        (not_by_row _ _ ldr, (not_by_row _ _ str, tt))
+    (not_by_row _ _ ldr, (not_by_row _ _ str, tt))
 
 pub returns-in_default-3 : goal.returns-in_default-3
 returns-in_default-3 c =
@@ -35,7 +35,7 @@ returns-in_default-3 c =
     let strw : bit_and c.args.word 0xffc0_0000 ≢ 0xb900_0000 = omega arith in
     let ldrsw : bit_and c.args.word 0xffc0_0000 ≢ 0xb980_0000 = omega arith in
     none_left memory_rows 24 8 (0xb9 ∷ []) c.args.word c.get.ensures.value c.in-185.is
-        (not_by_row _ _ ldrw, (not_by_row _ _ strw, (not_by_row _ _ ldrsw, tt)))
+    (not_by_row _ _ ldrw, (not_by_row _ _ strw, (not_by_row _ _ ldrsw, tt)))
 
 pub returns-in_default-4 : goal.returns-in_default-4
 returns-in_default-4 c =
@@ -43,7 +43,7 @@ returns-in_default-4 c =
     let strh : bit_and c.args.word 0xffc0_0000 ≢ 0x7900_0000 = omega arith in
     let ldrsh : bit_and c.args.word 0xffc0_0000 ≢ 0x7980_0000 = omega arith in
     none_left memory_rows 24 8 (0x79 ∷ []) c.args.word c.get.ensures.value c.in-121.is
-        (not_by_row _ _ ldrh, (not_by_row _ _ strh, (not_by_row _ _ ldrsh, tt)))
+    (not_by_row _ _ ldrh, (not_by_row _ _ strh, (not_by_row _ _ ldrsh, tt)))
 
 pub returns-in_default-5 : goal.returns-in_default-5
 returns-in_default-5 c =
@@ -51,27 +51,27 @@ returns-in_default-5 c =
     let strb : bit_and c.args.word 0xffc0_0000 ≢ 0x3900_0000 = omega arith in
     let ldrsb : bit_and c.args.word 0xffc0_0000 ≢ 0x3980_0000 = omega arith in
     none_left memory_rows 24 8 (0x39 ∷ []) c.args.word c.get.ensures.value c.in-57.is
-        (not_by_row _ _ ldrb, (not_by_row _ _ strb, (not_by_row _ _ ldrsb, tt)))
+    (not_by_row _ _ ldrb, (not_by_row _ _ strb, (not_by_row _ _ ldrsb, tt)))
 
 pub returns-in_default-6 : goal.returns-in_default-6
 returns-in_default-6 c =
     let ldur : bit_and c.args.word 0xffe0_0c00 ≢ 0xf840_0000 = omega arith in
     let stur : bit_and c.args.word 0xffe0_0c00 ≢ 0xf800_0000 = omega arith in
     none_left memory_rows 24 8 (0xf8 ∷ []) c.args.word c.get.ensures.value c.in-248.is
-        (not_by_row _ _ ldur, (not_by_row _ _ stur, tt))
+    (not_by_row _ _ ldur, (not_by_row _ _ stur, tt))
 
 pub returns-in_default-7 : goal.returns-in_default-7
 returns-in_default-7 c =
     let stp : bit_and c.args.word 0xffc0_0000 ≢ 0xa900_0000 = omega arith in
     none_left memory_rows 24 8 (0xa9 ∷ []) c.args.word c.get.ensures.value c.in-169.is
-        (not_ldp _ c.requires c.in-2839543808.is c.get-rt-in-169.ensures.value c.get-rt2.ensures.value c.if-rt-rt2.false, (not_by_row _ _ stp, tt))
+    (not_ldp _ c.requires c.in-2839543808.is c.get-rt-in-169.ensures.value c.get-rt2.ensures.value c.if-rt-rt2.false, (not_by_row _ _ stp, tt))
 
 pub returns-in_default-7-2 : goal.returns-in_default-7-2
 returns-in_default-7-2 c =
     let ldp : bit_and c.args.word 0xffc0_0000 ≢ 0xa940_0000 = omega arith in
     let stp : bit_and c.args.word 0xffc0_0000 ≢ 0xa900_0000 = omega arith in
     none_left memory_rows 24 8 (0xa9 ∷ []) c.args.word c.get.ensures.value c.in-169.is
-        (not_by_row _ _ ldp, (not_by_row _ _ stp, tt))
+    (not_by_row _ _ ldp, (not_by_row _ _ stp, tt))
 
 pub returns-in-4181721088 : goal.returns-in-4181721088
 returns-in-4181721088 c = here 0 (Row.LoadStore LoadStoreOp.Ldr) refl c.requires c.in-4181721088.is (next c.get-rt.ensures.value (next c.get-rn.ensures.value (next c.get-imm.ensures.value refl))) refl
@@ -129,4 +129,3 @@ returns-in-2835349504 c =
 
 pub returns-in_default : goal.returns-in_default
 returns-in_default c = nothing c.args.word c.get.ensures.value (assumption c, (assumption c, (assumption c, (assumption c, (assumption c, (assumption c, tt))))))
-

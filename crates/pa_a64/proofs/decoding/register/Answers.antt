@@ -1,5 +1,5 @@
 -- Each arm gives the one row that is left, or none is left.
-use Rattle.std.proofs.Common.{◌≡◌, ◌≢◌, ℕ, ◌+◌, ◌*◌, ◌%◌, ◌<◌, ◌^◌, ◌∙◌, eqb, false, List, [], ◌∷◌, Some, None, refl, sym, ap, bit_and, arith, rules, w8, w16, w32, lit≤}
+use Rattle.std.proofs.Common.{◌≡◌, ◌≢◌, ℕ, ◌<◌, ◌^◌, List, [], ◌∷◌, Some, None, refl, bit_and, arith}
 use Rattle.pa_num.specs.Bits.{field}
 use Rattle.pa_a64.specs.declared.instr.Instr.{Instr}
 use Rattle.pa_a64.specs.declared.instr.AuthenticateOp.{AuthenticateOp}
@@ -10,11 +10,10 @@ use Rattle.pa_a64.specs.declared.instr.PlainOp.{PlainOp}
 use Rattle.pa_a64.specs.declared.instr.ShiftOp.{ShiftOp}
 use Rattle.pa_a64.specs.declared.instr.SignOp.{SignOp}
 use Rattle.pa_a64.specs.declared.instr.SumOp.{SumOp}
-use Rattle.pa_a64.specs.Decoding.{decoded_among, instruction, signed_of_bits}
+use Rattle.pa_a64.specs.Decoding.{decoded_among, instruction}
 use Rattle.pa_a64.specs.Parts.{fixed}
 use Rattle.pa_a64.specs.Table.{Row, parts, register_rows}
-use Rattle.pa_a64.proofs.Rows.{found, Outside, row_at, line_places, next, register_distinct, none_left, none_listed, not_by_row, not_ldp}
-use Rattle.pa_a64.proofs.TwosComplement.{signed-got, signed-narrowed}
+use Rattle.pa_a64.proofs.Rows.{found, Outside, row_at, line_places, next, register_distinct, none_left, none_listed, not_by_row}
 use Rattle.pa_a64.proofs.Words.{mask, gets}
 use Rattle.pa_a64.proofs.decoding.register.Goals as goal
 
@@ -31,7 +30,7 @@ returns-in_default-2 c =
     let eor : bit_and c.args.word 0xffe0_fc00 ≢ 0xca00_0000 = omega arith in
     let orn : bit_and c.args.word 0xffe0_fc00 ≢ 0xaa20_0000 = omega arith in
     none_left register_rows 24 8 (0x8a ∷ 0xaa ∷ 0xca ∷ []) c.args.word c.get.ensures.value c.in-138.is
-        (not_by_row _ _ and, (not_by_row _ _ orr, (not_by_row _ _ eor, (not_by_row _ _ orn, tt))))
+    (not_by_row _ _ and, (not_by_row _ _ orr, (not_by_row _ _ eor, (not_by_row _ _ orn, tt))))
 
 pub returns-in_default-3 : goal.returns-in_default-3
 returns-in_default-3 c =
@@ -39,14 +38,14 @@ returns-in_default-3 c =
     let sub : bit_and c.args.word 0xffe0_fc00 ≢ 0xcb00_0000 = omega arith in
     let subs : bit_and c.args.word 0xffe0_fc00 ≢ 0xeb00_0000 = omega arith in
     none_left register_rows 24 8 (0x8b ∷ 0xcb ∷ 0xeb ∷ []) c.args.word c.get.ensures.value c.in-139.is
-        (not_by_row _ _ add, (not_by_row _ _ sub, (not_by_row _ _ subs, tt)))
+    (not_by_row _ _ add, (not_by_row _ _ sub, (not_by_row _ _ subs, tt)))
 
 pub returns-in_default-4 : goal.returns-in_default-4
 returns-in_default-4 c =
     let madd : bit_and c.args.word 0xffe0_8000 ≢ 0x9b00_0000 = omega arith in
     let msub : bit_and c.args.word 0xffe0_8000 ≢ 0x9b00_8000 = omega arith in
     none_left register_rows 24 8 (0x9b ∷ []) c.args.word c.get.ensures.value c.in-155.is
-        (not_by_row _ _ madd, (not_by_row _ _ msub, tt))
+    (not_by_row _ _ madd, (not_by_row _ _ msub, tt))
 
 pub returns-then-word-eq2592080896 : goal.returns-then-word-eq2592080896
 returns-then-word-eq2592080896 c = here 14 Row.Csinc refl c.requires c.if-word-eq2592080896.true (next c.get-rd-then-word-eq2592080896.ensures.value (next c.get-rn-then-word-eq2592080896.ensures.value (next c.get-condition.ensures.value (next c.get-rm-then-word-eq2592080896.ensures.value refl)))) refl
@@ -64,7 +63,7 @@ returns-else-word-eq2596286464 c =
     let csinc : bit_and c.args.word 0xffe0_0c00 ≢ 0x9a80_0400 = omega arith in
     let pacga : bit_and c.args.word 0xffe0_fc00 ≢ 0x9ac0_3000 = omega arith in
     none_left register_rows 24 8 (0x9a ∷ []) c.args.word c.get.ensures.value c.in-154.is
-        (not_by_row _ _ udiv, (not_by_row _ _ sdiv, (not_by_row _ _ lslv, (not_by_row _ _ lsrv, (not_by_row _ _ asrv, (not_by_row _ _ csinc, (not_by_row _ _ pacga, tt)))))))
+    (not_by_row _ _ udiv, (not_by_row _ _ sdiv, (not_by_row _ _ lslv, (not_by_row _ _ lsrv, (not_by_row _ _ asrv, (not_by_row _ _ csinc, (not_by_row _ _ pacga, tt)))))))
 
 pub returns-in-2596282368 : goal.returns-in-2596282368
 returns-in-2596282368 c = here 11 (Row.Shift ShiftOp.Lslv) refl c.requires c.in-2596282368.is (next c.get-rd-in_default-5.ensures.value (next c.get-rn-in_default-5.ensures.value (next c.get-rm-in_default-5.ensures.value refl))) refl
@@ -89,7 +88,7 @@ returns-in_default-9 c =
     let autiza : bit_and c.args.word 0xffff_ffe0 ≢ 0xdac1_33e0 = omega arith in
     let xpaci : bit_and c.args.word 0xffff_ffe0 ≢ 0xdac1_43e0 = omega arith in
     none_left register_rows 24 8 (0xda ∷ []) c.args.word c.get.ensures.value c.in-218.is
-        (not_by_row _ _ pacia, (not_by_row _ _ pacib, (not_by_row _ _ pacda, (not_by_row _ _ pacdb, (not_by_row _ _ autia, (not_by_row _ _ autib, (not_by_row _ _ autda, (not_by_row _ _ autdb, (not_by_row _ _ paciza, (not_by_row _ _ autiza, (not_by_row _ _ xpaci, tt)))))))))))
+    (not_by_row _ _ pacia, (not_by_row _ _ pacib, (not_by_row _ _ pacda, (not_by_row _ _ pacdb, (not_by_row _ _ autia, (not_by_row _ _ autib, (not_by_row _ _ autda, (not_by_row _ _ autdb, (not_by_row _ _ paciza, (not_by_row _ _ autiza, (not_by_row _ _ xpaci, tt)))))))))))
 
 pub returns-in-3670090720 : goal.returns-in-3670090720
 returns-in-3670090720 c = here 24 (Row.Plain PlainOp.Paciza) refl c.requires c.in-3670090720.is (next c.get-rd-in_default-8.ensures.value refl) refl
@@ -159,4 +158,3 @@ returns-in-3670084608 c = here 19 (Row.Sign SignOp.Pacdb) refl c.requires c.in-3
 
 pub returns-in_default : goal.returns-in_default
 returns-in_default c = nothing c.args.word c.get.ensures.value (assumption c, (assumption c, (assumption c, (assumption c, (assumption c, tt)))))
-

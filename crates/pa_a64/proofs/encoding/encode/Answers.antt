@@ -1,5 +1,5 @@
 -- The word has 32 bits, and is read as the instruction.
-use Rattle.std.proofs.Common.{◌≡◌, ◌∙◌, ap, arith}
+use Rattle.std.proofs.Common.{◌∙◌, ap, arith}
 use Rattle.pa_a64.specs.Decoding.{decoded}
 use Rattle.pa_a64.proofs.RoundTrip.{decoded-encoded, encoded-lt}
 use Rattle.pa_a64.proofs.encoding.encode.Goals as goal

@@ -1,5 +1,5 @@
 -- The fields of each line, put one after the other into the fixed bits of its row, make the word.
-use Rattle.std.proofs.Common.{◌≡◌, refl, ◌∙◌, rules, w8, w16, w32, SFits}
+use Rattle.std.proofs.Common.{refl, ◌∙◌, rules, w8, w16, w32, SFits}
 use Rattle.pa_a64.proofs.TwosComplement.{bits-passed, bits-widened}
 use Rattle.pa_a64.proofs.RoundTrip.{encoded-puts, then_put, bit_of-bool, pages_above, pages_below}
 use Rattle.pa_a64.proofs.encoding.with_fields.Goals as goal
@@ -9,9 +9,9 @@ returns-in-Adrp c =
     let fits : SFits w32 c.in-Adrp.pages = search rules in
     let bits = c.to_bits-bits.ensures.bits ∙ bits-passed w32 21 _ fits in
     then_put 29 2 c.put-word-in-Adrp-2.ensures.value
-        (then_put 5 19 c.put-word-in-Adrp.ensures.value (then_put 0 5 c.put-word.ensures.value refl c.from.ensures)
-            (c.get.ensures.value ∙ pages_above c.to_bits-bits.result _ c.to_bits-bits.ensures.fits bits))
-        (c.get-in-Adrp.ensures.value ∙ pages_below c.to_bits-bits.result _ bits)
+    (then_put 5 19 c.put-word-in-Adrp.ensures.value (then_put 0 5 c.put-word.ensures.value refl c.from.ensures)
+    (c.get.ensures.value ∙ pages_above c.to_bits-bits.result _ c.to_bits-bits.ensures.fits bits))
+    (c.get-in-Adrp.ensures.value ∙ pages_below c.to_bits-bits.result _ bits)
     ∙ encoded-puts c.args.instr _ c.args.word c.requires.range c.in-Adrp.is c.requires.row
 
 pub returns-in-SumImmediate : goal.returns-in-SumImmediate
@@ -161,4 +161,3 @@ pub returns-in-BranchAuthenticated : goal.returns-in-BranchAuthenticated
 returns-in-BranchAuthenticated c =
     then_put 5 5 c.put-word-in-BranchAuthenticated-2.ensures.value (then_put 0 5 c.put-word-in-BranchAuthenticated.ensures.value refl c.from-in-BranchAuthenticated.ensures) c.from-in-BranchAuthenticated-2.ensures
     ∙ encoded-puts c.args.instr _ c.args.word c.requires.range c.in-BranchAuthenticated.is c.requires.row
-
