@@ -32,7 +32,7 @@ pub Written-passed : (a b c : Option (List ℕ)) (text old new piece rest : List
 Written-passed a b c text old new piece rest w p = record {
   done = w.done ++ p.done;
   parts = w.parts ∙ (ap (λ r. w.done ++ r) (sym (append_assoc old piece rest) ∙ (ap (λ r. r ++ rest) p.parts ∙ append_assoc p.done new rest)) ∙ sym (append_assoc w.done p.done (new ++ rest)));
-  grew = Grew-append a b c w.done p.done w.grew p.grew
+  grew = Grew-append a b c w.done p.done w.grew p.grew;
 }
 
 -- the last piece is written
@@ -61,7 +61,7 @@ pub Written-item : {X : Type 0} (f : X → List ℕ) (items : List X) (i : ℕ) 
     → Written a b text (old ++ flat_map f (drop i items)) → Passed b c old new (f (get_or items i d)) → Written a c text (new ++ flat_map f (drop (i + 1) items))
 Written-item f items i d a b c text old new within w p =
     Written-passed a b c text old new (f (get_or items i d)) (flat_map f (drop (i + 1) items))
-      (rw (drop_more items i d within) at w) p
+    (rw (drop_more items i d within) at w) p
 
 -- ---- a whole text of two parts
 

@@ -28,7 +28,7 @@ pub report_text-pages : (output : List ℕ) (end : End) (entries : List Entry) (
 unfolding report_text
 report_text-pages output end entries short first head second feed ended counted e1 e2 e3 e4 e5 e6 =
     rw (reverse-reverse entries, counts_line-reverse entries, e6, e5, e4, e3, e2, e1)
-      (regroup (output_line output) output (codes "\n") (end_line end) (counts_line entries) (flat_map (shown_text short) entries))
+    (regroup (output_line output) output (codes "\n") (end_line end) (counts_line entries) (flat_map (shown_text short) entries))
 
 -- what stands behind the output
 abbrev pub behind_output : End → List Entry → Bool → List ℕ

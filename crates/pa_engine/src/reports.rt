@@ -27,7 +27,13 @@ pub fn report<K: Sink>(ran: &Ran, short: bool, out: &mut K) -> Result<(), Failed
     ensures fault { OnErr result (Rose (K.faults out.old) (K.faults out.new)) }
     ensures kept { K.faults out.old ≤ K.faults out.new }
 {
-    write_report(ran.output.as_slice(), ran.end, ran.log.entries(), short, out)
+    write_report(
+        ran.output.as_slice(),
+        ran.end,
+        ran.log.entries(),
+        short,
+        out,
+    )
 }
 
 /// How many signatures the log has.
@@ -110,7 +116,12 @@ impl Page {
 }
 
 /// Adds the line of an entry where the report shows it, and writes the page before where the line may not fit.
-fn put_entry<K: Sink>(page: &mut Page, entry: &Entry, short: bool, out: &mut K) -> Result<(), Failed>
+fn put_entry<K: Sink>(
+    page: &mut Page,
+    entry: &Entry,
+    short: bool,
+    out: &mut K,
+) -> Result<(), Failed>
     ensures all { OnOk result (Passed (K.written out.old) (K.written out.new) page.old page.new (shown_text short entry.now)) }
     ensures prefix { OnErr result (GrewByPrefix (K.written out.old) (K.written out.new) page.old) }
     ensures fault { OnErr result (Rose (K.faults out.old) (K.faults out.new)) }
@@ -127,7 +138,12 @@ fn put_entry<K: Sink>(page: &mut Page, entry: &Entry, short: bool, out: &mut K) 
 }
 
 /// Writes the text of a page and then the lines of the log, the oldest entry first.
-fn write_lines<K: Sink>(page: &mut Page, entries: &[Entry], short: bool, out: &mut K) -> Result<(), Failed>
+fn write_lines<K: Sink>(
+    page: &mut Page,
+    entries: &[Entry],
+    short: bool,
+    out: &mut K,
+) -> Result<(), Failed>
     ensures all { OnOk result (Grew (K.written out.old) (K.written out.new) (page.old ++ flat_map (shown_text short) entries.now)) }
     ensures prefix { OnErr result (GrewByPrefix (K.written out.old) (K.written out.new) (page.old ++ flat_map (shown_text short) entries.now)) }
     ensures fault { OnErr result (Rose (K.faults out.old) (K.faults out.new)) }
@@ -140,7 +156,13 @@ fn write_lines<K: Sink>(page: &mut Page, entries: &[Entry], short: bool, out: &m
 }
 
 /// Writes the report of a run from its parts, of the log the oldest entry first.
-pub(crate) fn write_report<K: Sink>(output: &[u8], end: End, entries: &[Entry], short: bool, out: &mut K) -> Result<(), Failed>
+pub(crate) fn write_report<K: Sink>(
+    output: &[u8],
+    end: End,
+    entries: &[Entry],
+    short: bool,
+    out: &mut K,
+) -> Result<(), Failed>
     ensures all { OnOk result (Grew (K.written out.old) (K.written out.new) (report_text output.now end (reverse entries.now) short)) }
     ensures prefix { OnErr result (GrewByPrefix (K.written out.old) (K.written out.new) (report_text output.now end (reverse entries.now) short)) }
     ensures fault { OnErr result (Rose (K.faults out.old) (K.faults out.new)) }

@@ -119,7 +119,13 @@ fn reports_are_written(rt: HostRuntime) -> Result<(), Fail> {
     ];
     let cases: [(&[u8], End, &[Entry], bool, &[u8]); 5] = [
         (b"", End::Exit(0), &returned, false, RETURNED),
-        (b"", End::Trap(Trap::AuthFail), &returned[..1], false, FAILED),
+        (
+            b"",
+            End::Trap(Trap::AuthFail),
+            &returned[..1],
+            false,
+            FAILED,
+        ),
         (b"", End::Trap(Trap::FetchAbort), &jumped, false, JUMPED),
         (b"Hi!", End::Exit(-31), &jumped, true, SHORT),
         (b"", End::Bound, &loaded, false, LOADED),

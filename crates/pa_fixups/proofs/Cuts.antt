@@ -69,4 +69,4 @@ read_on_at count entries k at len part text rest name old new lt r e ok i n =
     let all : drop (len + 1) rest ≡ take (length rest - (len + 1)) (drop (len + 1) rest) = sym (take_all _ _ (omega (arith, length-drop (len + 1) rest))) in
     let names : old ++ take len rest ∷ [] ≡ new = ap (λ (x : List ℕ). old ++ x ∷ []) (sym i) ∙ sym n in
     subst (λ (l : List ℕ). Read count entries (k + 1) (at + (len + 1)) part text l new) all
-        (subst (Read count entries (k + 1) (at + (len + 1)) part text (drop (len + 1) rest)) names (read_on count entries k at len part text rest old lt r e ok))
+    (subst (Read count entries (k + 1) (at + (len + 1)) part text (drop (len + 1) rest)) names (read_on count entries k at len part text rest old lt r e ok))

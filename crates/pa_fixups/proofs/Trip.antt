@@ -144,13 +144,13 @@ chain_taken (suc n) bounds page at bytes h enough e =
     let p = slot_passed bounds page at bytes h s.0 in
     let next = at + 8 * link_at page at in
     let go : (t : Bool) → ends_at bounds page at ≡ t → first_at (λ at. slot_checks bounds page at) page (cond t [] (places (suc n) bounds page next)) ≡ None → Taken bounds page at (cond t [] (places (suc n) bounds page next)) =
-        λ t. elim t as (λ t. ends_at bounds page at ≡ t → first_at (λ at. slot_checks bounds page at) page (cond t [] (places (suc n) bounds page next)) ≡ None → Taken bounds page at (cond t [] (places (suc n) bounds page next))) [
-          | true ↦ λ q f. taken_last bounds page at p (eqb-true _ _ (stops (eqb (link_at page at) 0) (may_stand bounds (length page) next) q p.on))
-          | false ↦ λ q f.
-            let g = goes_on (eqb (link_at page at) 0) (may_stand bounds (length page) next) q in
-            let ne = eqb-false (link_at page at) 0 g.0 in
-            taken_on bounds page at next (after n bounds page next) p ne refl (chain_taken n bounds page next bytes g.1 (omega arith) f)
-        ] in
+    λ t. elim t as (λ t. ends_at bounds page at ≡ t → first_at (λ at. slot_checks bounds page at) page (cond t [] (places (suc n) bounds page next)) ≡ None → Taken bounds page at (cond t [] (places (suc n) bounds page next))) [
+      | true ↦ λ q f. taken_last bounds page at p (eqb-true _ _ (stops (eqb (link_at page at) 0) (may_stand bounds (length page) next) q p.on))
+      | false ↦ λ q f.
+          let g = goes_on (eqb (link_at page at) 0) (may_stand bounds (length page) next) q in
+          let ne = eqb-false (link_at page at) 0 g.0 in
+          taken_on bounds page at next (after n bounds page next) p ne refl (chain_taken n bounds page next bytes g.1 (omega arith) f)
+    ] in
     go (ends_at bounds page at) refl s.1
 
 -- ---- the chain
@@ -175,10 +175,11 @@ pub chain_only : (bounds : Bounds) (page : List ℕ) (from : ℕ) (fixes : List 
 unfolding chain_places
 chain_only bounds page from [] short c = absurd c
 chain_only bounds page from (fix ∷ fixes) short c =
-    let a = chain_again (length page - fix.at) bounds page fix fixes short (omega arith) c.2 c.1 c.3 in
-    (ap (may_stand bounds (length page)) (sym c.0) ∙ c.2.0.stands,
-        ap (λ (n : ℕ). map (λ at. fix_at page at) (places (length page - n) bounds page n)) (sym c.0) ∙ a.fixes_are,
-        ap (λ (n : ℕ). first_at (λ at. slot_checks bounds page at) page (places (length page - n) bounds page n)) (sym c.0) ∙ a.flaw)
+    let a = chain_again (length page - fix.at) bounds page fix fixes short (omega arith) c.2 c.1 c.3 in (
+      ap (may_stand bounds (length page)) (sym c.0) ∙ c.2.0.stands,
+      ap (λ (n : ℕ). map (λ at. fix_at page at) (places (length page - n) bounds page n)) (sym c.0) ∙ a.fixes_are,
+      ap (λ (n : ℕ). first_at (λ at. slot_checks bounds page at) page (places (length page - n) bounds page n)) (sym c.0) ∙ a.flaw,
+    )
 
 -- ---- answers
 

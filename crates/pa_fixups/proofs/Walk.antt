@@ -56,13 +56,13 @@ places_more (suc n) (suc m) bounds page at h ln lm =
     let i = stands_inside bounds (length page) at h in
     let next = at + 8 * link_at page at in
     let go : (t : Bool) → ends_at bounds page at ≡ t → cond t [] (places n bounds page next) ≡ cond t [] (places m bounds page next) =
-        λ t. elim t as (λ t. ends_at bounds page at ≡ t → cond t [] (places n bounds page next) ≡ cond t [] (places m bounds page next)) [
-          | true ↦ λ e. refl
-          | false ↦ λ e.
-            let g = goes_on (eqb (link_at page at) 0) (may_stand bounds (length page) next) e in
-            let ne = eqb-false (link_at page at) 0 g.0 in
-            places_more n m bounds page next g.1 (omega arith) (omega arith)
-        ] in
+    λ t. elim t as (λ t. ends_at bounds page at ≡ t → cond t [] (places n bounds page next) ≡ cond t [] (places m bounds page next)) [
+      | true ↦ λ e. refl
+      | false ↦ λ e.
+          let g = goes_on (eqb (link_at page at) 0) (may_stand bounds (length page) next) e in
+          let ne = eqb-false (link_at page at) 0 g.0 in
+          places_more n m bounds page next g.1 (omega arith) (omega arith)
+    ] in
     ap (λ (r : List ℕ). at ∷ r) (go (ends_at bounds page at) refl)
 
 places_on : (k n : ℕ) (bounds : Bounds) (page : List ℕ) (at : ℕ) → k ≡ suc n → eqb (link_at page at) 0 ≡ false → may_stand bounds (length page) (at + 8 * link_at page at) ≡ true → places k bounds page at ≡ at ∷ places n bounds page (at + 8 * link_at page at)

@@ -23,8 +23,8 @@ may_stand bounds len at =
     let place = bounds.page + at in
     let cells = up16 bounds.got in
     (at % 8 == 0)
-        && (nat_le (at + 8) len
-            && (nat_le (place + 8) bounds.got || (nat_le cells place && nat_le (place + 8) (cells + bounds.cells))))
+    && (nat_le (at + 8) len
+    && (nat_le (place + 8) bounds.got || (nat_le cells place && nat_le (place + 8) (cells + bounds.cells))))
 
 -- an ordinal is that of an import
 unfoldable pub ordinal_fits : Bounds → FixKind → Bool

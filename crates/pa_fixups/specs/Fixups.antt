@@ -61,8 +61,8 @@ unfoldable pub fixups_bytes : DataAt → Fixups → List ℕ
 fixups_bytes at fixups =
     let count = length fixups.imports in
     concat
-        (spelled (header_of at count) ∷ spelled (segments_of at) ∷ spelled (pages_of at) ∷ spelled (map two fixups.starts)
-        ∷ replicate (imports_at at - starts_end at) 0 ∷ spelled (entries 1 fixups.imports) ∷ (0 ∷ []) ∷ ended fixups.imports ∷ [])
+    (spelled (header_of at count) ∷ spelled (segments_of at) ∷ spelled (pages_of at) ∷ spelled (map two fixups.starts)
+    ∷ replicate (imports_at at - starts_end at) 0 ∷ spelled (entries 1 fixups.imports) ∷ (0 ∷ []) ∷ ended fixups.imports ∷ [])
 
 -- there is a start for each page, each number has room in its field, and no name has a zero byte
 pub record FixupsFit (at : DataAt) (fixups : Fixups) : Type 0 where

@@ -24,11 +24,6 @@ fn read_parts(alloc: Global, part: &[u8], at: DataAt) -> Result<Fixups, Fault<Im
     check_zeros(part, ImageRule::F2, names, names + 1)?;
     let starts = read_starts(alloc, part, STARTS, at.pages)?;
     let (imports, left) = read_names(alloc, part, entries, count, &part[names + 1..])?;
-    check(
-        part,
-        ImageRule::F1,
-        (part.len() - left) as u64,
-        left == 0,
-    )?;
+    check(part, ImageRule::F1, (part.len() - left) as u64, left == 0)?;
     Ok(Fixups { starts, imports })
 }

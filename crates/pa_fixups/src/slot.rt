@@ -132,7 +132,7 @@ pub fn write_slot(kind: FixKind, next: u16) -> u64
     ensures value { result ≡ packed (parts_of kind next) }
     ensures read { slot_of result ≡ Ok (kind, next) }
 {
-    forms!(written (kind, next))
+    forms!(written(kind, next))
 }
 
 /// What the word of a slot says, and its link; F3 where one of its zero bits is set.
@@ -143,5 +143,5 @@ pub fn read_slot(word: u64) -> Result<(FixKind, u16), ImageRule>
     let is_bind = Field::<62, 1>::get(word) == 1;
     let is_auth = Field::<63, 1>::get(word) == 1;
     let next = Field::<51, 11>::get(word) as u16;
-    forms!(read (word, is_bind, is_auth, next))
+    forms!(read(word, is_bind, is_auth, next))
 }

@@ -60,7 +60,7 @@ ended-cut (suc n) text h =
     let rest = after_first is_zero text in
     let z : get_or text (name_length text) 0 ≡ 0 = eqb-true _ _ (passes_at_first is_zero text 0 h.0) in
     split_at_first is_zero text 0 h.0 ∙ ap (λ (b : ℕ). front ++ (b ∷ rest)) z ∙ ap (λ (l : List ℕ). front ++ (0 ∷ l)) (ended-cut n rest h.1)
-        ∙ sym (append_assoc front (0 ∷ ended (cut n rest)) (behind n rest))
+    ∙ sym (append_assoc front (0 ∷ ended (cut n rest)) (behind n rest))
 
 -- ---- what is spelled is cut from the text
 

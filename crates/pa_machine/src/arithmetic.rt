@@ -24,7 +24,9 @@ pub fn sdiv(x: u64, y: u64) -> u64
     if y == 0 {
         return 0;
     }
-    x.cast_signed().wrapping_div(y.cast_signed()).cast_unsigned()
+    x.cast_signed()
+        .wrapping_div(y.cast_signed())
+        .cast_unsigned()
 }
 
 /// A shift to the left by an amount that counts modulo 64.

@@ -97,12 +97,23 @@ impl Processor {
     }
 
     #[tactic(auto, unfolding(pa_object::specs::Effects::effect, pa_object::specs::Traps::trap_of))]
-    pub fn branch_authenticated<P: Pac>(&mut self, p: &P, op: BranchAuthenticatedOp, rn: u8, rm: u8) -> Result<(), Trap>
+    pub fn branch_authenticated<P: Pac>(
+        &mut self,
+        p: &P,
+        op: BranchAuthenticatedOp,
+        rn: u8,
+        rm: u8,
+    ) -> Result<(), Trap>
         requires count { self.old.machine.count + 1 < 2 ^ 32 }
         requires log { length self.old.machine.log + 2 ≤ self.old.log_limit }
         ensures { DoesOrTraps (P.code p.now) (instr.BranchAuthenticated op rn rm) self.old result self.new }
     {
-        let raw = self.accepts(p, key_of_branch(op), self.register_or_sp(rm), self.register(rn))?;
+        let raw = self.accepts(
+            p,
+            key_of_branch(op),
+            self.register_or_sp(rm),
+            self.register(rn),
+        )?;
         match op {
             BranchAuthenticatedOp::Braa => self.lands(Way::Jump, raw),
             BranchAuthenticatedOp::Blraa | BranchAuthenticatedOp::Blrab => {
@@ -155,7 +166,13 @@ impl Processor {
     }
 
     #[tactic(auto, unfolding(pa_object::specs::Effects::effect, pa_object::specs::Traps::trap_of))]
-    pub fn authenticate<P: Pac>(&mut self, p: &P, op: AuthenticateOp, rd: u8, rn: u8) -> Result<(), Trap>
+    pub fn authenticate<P: Pac>(
+        &mut self,
+        p: &P,
+        op: AuthenticateOp,
+        rd: u8,
+        rn: u8,
+    ) -> Result<(), Trap>
         requires count { self.old.machine.count + 1 < 2 ^ 32 }
         requires log { length self.old.machine.log < self.old.log_limit }
         ensures { DoesOrTraps (P.code p.now) (instr.Authenticate op rd rn) self.old result self.new }

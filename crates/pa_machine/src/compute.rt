@@ -50,7 +50,12 @@ impl Processor {
         requires { self.old.machine.count + 1 < 2 ^ 32 }
         ensures { (code : Code) → Does code (instr.SubsImmediate rd rn imm shifted) self.old self.new }
     {
-        self.summed(SumOp::Subs, rd, self.register_or_sp(rn), immediate(imm, shifted));
+        self.summed(
+            SumOp::Subs,
+            rd,
+            self.register_or_sp(rn),
+            immediate(imm, shifted),
+        );
     }
 
     #[tactic(auto, unfolding(pa_object::specs::Traps::trap_of, pa_object::specs::Effects::effect))]

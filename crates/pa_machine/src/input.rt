@@ -31,11 +31,7 @@ impl Input {
     pub fn next(&mut self) -> Option<u8>
         ensures { MatchOption result ((self.old ≡ []) × (self.new ≡ [])) (λ byte. self.old ≡ byte ∷ self.new) }
     {
-        let byte = self
-            .bytes
-            .as_slice()
-            .get(self.position)
-            .copied()?;
+        let byte = self.bytes.as_slice().get(self.position).copied()?;
         self.position += 1;
         Some(byte)
     }

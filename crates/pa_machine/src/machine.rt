@@ -40,7 +40,12 @@ impl<'a, P: Pac> Model for Machine<'a, P> {
 
 impl<'a, P: Pac> Machine<'a, P> {
     /// A machine that begins where the images are loaded, with this input and `p` for the authentication codes.
-    pub fn new(alloc: Global, loaded: Loaded, input: &[u8], p: &'a P) -> Result<Machine<'a, P>, Memory>
+    pub fn new(
+        alloc: Global,
+        loaded: Loaded,
+        input: &[u8],
+        p: &'a P,
+    ) -> Result<Machine<'a, P>, Memory>
         ensures machine { IfOk result (λ made. made.machine ≡ begun loaded.space loaded.log.entries loaded.pc loaded.sp input.now) }
         ensures pac { IfOk result (λ made. made.pac ≡ p.now) }
     {

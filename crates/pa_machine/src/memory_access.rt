@@ -76,7 +76,13 @@ impl Processor {
     }
 
     #[tactic(auto, unfolding(pa_object::specs::Effects::effect, pa_object::specs::Traps::trap_of))]
-    pub fn load_store_word(&mut self, op: LoadStoreWordOp, rt: u8, rn: u8, imm: u16) -> Result<(), Trap>
+    pub fn load_store_word(
+        &mut self,
+        op: LoadStoreWordOp,
+        rt: u8,
+        rn: u8,
+        imm: u16,
+    ) -> Result<(), Trap>
         requires { self.old.machine.count + 1 < 2 ^ 32 }
         ensures { (code : Code) → DoesOrTraps code (instr.LoadStoreWord op rt rn imm) self.old result self.new }
     {
@@ -89,7 +95,13 @@ impl Processor {
     }
 
     #[tactic(auto, unfolding(pa_object::specs::Effects::effect, pa_object::specs::Traps::trap_of))]
-    pub fn load_store_half(&mut self, op: LoadStoreHalfOp, rt: u8, rn: u8, imm: u16) -> Result<(), Trap>
+    pub fn load_store_half(
+        &mut self,
+        op: LoadStoreHalfOp,
+        rt: u8,
+        rn: u8,
+        imm: u16,
+    ) -> Result<(), Trap>
         requires { self.old.machine.count + 1 < 2 ^ 32 }
         ensures { (code : Code) → DoesOrTraps code (instr.LoadStoreHalf op rt rn imm) self.old result self.new }
     {
@@ -102,7 +114,13 @@ impl Processor {
     }
 
     #[tactic(auto, unfolding(pa_object::specs::Effects::effect, pa_object::specs::Traps::trap_of))]
-    pub fn load_store_byte(&mut self, op: LoadStoreByteOp, rt: u8, rn: u8, imm: u16) -> Result<(), Trap>
+    pub fn load_store_byte(
+        &mut self,
+        op: LoadStoreByteOp,
+        rt: u8,
+        rn: u8,
+        imm: u16,
+    ) -> Result<(), Trap>
         requires { self.old.machine.count + 1 < 2 ^ 32 }
         ensures { (code : Code) → DoesOrTraps code (instr.LoadStoreByte op rt rn imm) self.old result self.new }
     {
@@ -115,7 +133,13 @@ impl Processor {
     }
 
     #[tactic(auto, unfolding(pa_object::specs::Effects::effect, pa_object::specs::Traps::trap_of))]
-    pub fn load_store_unscaled(&mut self, op: LoadStoreUnscaledOp, rt: u8, rn: u8, imm: i16) -> Result<(), Trap>
+    pub fn load_store_unscaled(
+        &mut self,
+        op: LoadStoreUnscaledOp,
+        rt: u8,
+        rn: u8,
+        imm: i16,
+    ) -> Result<(), Trap>
         requires { self.old.machine.count + 1 < 2 ^ 32 }
         ensures { (code : Code) → DoesOrTraps code (instr.LoadStoreUnscaled op rt rn imm) self.old result self.new }
     {
@@ -127,7 +151,14 @@ impl Processor {
     }
 
     #[tactic(auto, unfolding(pa_object::specs::Effects::effect, pa_object::specs::Traps::trap_of))]
-    pub fn load_store_pair(&mut self, op: LoadStorePairOp, rt: u8, rt2: u8, rn: u8, imm: i8) -> Result<(), Trap>
+    pub fn load_store_pair(
+        &mut self,
+        op: LoadStorePairOp,
+        rt: u8,
+        rt2: u8,
+        rn: u8,
+        imm: i8,
+    ) -> Result<(), Trap>
         requires { self.old.machine.count + 1 < 2 ^ 32 }
         ensures { (code : Code) → DoesOrTraps code (instr.LoadStorePair op rt rt2 rn imm) self.old result self.new }
     {

@@ -43,21 +43,21 @@ impl Model for Processor {
     ghost Value = { Processor };
 
     ghost view = { λ p. record {
-        machine = record {
-          registers = p.registers;
-          sp = p.sp;
-          flags = p.flags;
-          memory = p.space;
-          pc = p.pc;
-          count = p.count;
-          input = p.input;
-          output = p.output.items;
-          log = p.log.entries;
-          ended = p.ended;
-        };
-        log_limit = length p.log.entries + p.log.spare;
-        output_limit = p.output_limit;
-      } };
+      machine = record {
+        registers = p.registers;
+        sp = p.sp;
+        flags = p.flags;
+        memory = p.space;
+        pc = p.pc;
+        count = p.count;
+        input = p.input;
+        output = p.output.items;
+        log = p.log.entries;
+        ended = p.ended;
+      };
+      log_limit = length p.log.entries + p.log.spare;
+      output_limit = p.output_limit;
+    } };
 
     ghost invariant = { λ p. p.output_limit ≤ vec_capacity p.output };
 }

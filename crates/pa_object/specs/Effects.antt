@@ -273,5 +273,5 @@ effect code (i.Authenticate op rd rn) m = next (accepted_in code (asked_by_authe
 effect code (i.Plain op rd) m = next (plainly code op rd m)
 effect code (i.Pacga rd rn rm) m =
     next (signs GA (register_or_sp rm m) (register rn m) (generic_code code (register rn m) (register_or_sp rm m))
-        (with_register rd (generic_code code (register rn m) (register_or_sp rm m)) m))
+    (with_register rd (generic_code code (register rn m) (register_or_sp rm m)) m))
 effect code (i.Exception op imm) m = excepted op imm m

@@ -28,17 +28,17 @@ pub record Machine : Type 0 where
 -- a machine before its first instruction: zeros in all registers and flags, and the whole input left
 abbrev pub begun : (memory : List Region) (log : Log) (pc sp : ℕ) (input : List ℕ) → Machine
 begun memory log pc sp input = record {
-    registers = replicate 31 0;
-    sp = sp;
-    flags = record { negative = false; zero = false; carry = false; overflow = false };
-    memory = memory;
-    pc = pc;
-    count = 0;
-    input = input;
-    output = [];
-    log = log;
-    ended = None;
-  }
+  registers = replicate 31 0;
+  sp = sp;
+  flags = record { negative = false; zero = false; carry = false; overflow = false };
+  memory = memory;
+  pc = pc;
+  count = 0;
+  input = input;
+  output = [];
+  log = log;
+  ended = None;
+}
 
 -- a register, where 31 is the zero register
 abbrev pub register : ℕ → Machine → ℕ
@@ -85,11 +85,11 @@ differ a b = if a then not b else b
 -- the flags of a difference: C is set where nothing was borrowed, V where the integers' difference doesn't fit
 unfoldable pub flags_of_difference : ℕ → ℕ → Flags
 flags_of_difference x y = record {
-    negative = is_negative64 (sub64 x y);
-    zero = sub64 x y == 0;
-    carry = nat_le y x;
-    overflow = differ (is_negative64 x) (is_negative64 y) && differ (is_negative64 (sub64 x y)) (is_negative64 x);
-  }
+  negative = is_negative64 (sub64 x y);
+  zero = sub64 x y == 0;
+  carry = nat_le y x;
+  overflow = differ (is_negative64 x) (is_negative64 y) && differ (is_negative64 (sub64 x y)) (is_negative64 x);
+}
 
 -- the sixteen conditions: eq, ne, cs, cc, mi, pl, vs, vc, hi, ls, ge, lt, gt, le, and twice always
 unfoldable pub condition_holds : ℕ → Flags → Bool

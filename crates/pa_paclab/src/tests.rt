@@ -107,7 +107,14 @@ fn each_answer_is_given(rt: HostRuntime) -> Result<(), Fail> {
         let mut input = MemSource::new(Bytes::from_slice(alloc, b"in")?, 0, Calls::new(alloc));
         let mut out = sink(alloc, 0)?;
         let words = words(alloc, texts)?;
-        let answer = paclab(alloc, &words, &mut shelf(alloc, 0)?, &mut input, &mut out, &FoldPac);
+        let answer = paclab(
+            alloc,
+            &words,
+            &mut shelf(alloc, 0)?,
+            &mut input,
+            &mut out,
+            &FoldPac,
+        );
         assert_eq!(rt; answer, exit, "{texts:?}");
         assert_eq!(rt; out.written.as_slice(), text);
         assert_eq!(rt; input.calls, 0);
@@ -122,7 +129,10 @@ fn objects_that_never_fail_give_the_same(rt: HostRuntime) -> Result<(), Fail> {
     let mut input = SureSource::new(Bytes::new(alloc));
     let mut out = SureSink::new(Bytes::new(alloc), false);
     let words = words(alloc, &["run", "hello.c"])?;
-    assert_eq!(rt; paclab(alloc, &words, &mut shelf, &mut input, &mut out, &FoldPac), Exit::Done);
+    assert_eq!(rt;
+        paclab(alloc, &words, &mut shelf, &mut input, &mut out, &FoldPac),
+        Exit::Done
+    );
     assert_eq!(rt; out.written.as_slice(), REPORT);
     Ok(())
 }

@@ -26,11 +26,11 @@ fn read_text<H: Shelf>(alloc: Global, name: &str, shelf: &mut H) -> Result<Vec<u
     ensures text { IfOk result (λ text. IsFile (H.told shelf.old name.now) text.items) }
     ensures short { IfOk result (λ text. vec_len text ≤ most_bytes) }
     ensures cause { IfErr result (Cause (Some name.now) record {
-        told = H.told shelf.old;
-        faults_before = H.faults shelf.old;
-        faults_now = H.faults shelf.new;
-        failed_now = H.failed shelf.new;
-      }) }
+      told = H.told shelf.old;
+      faults_before = H.faults shelf.old;
+      faults_now = H.faults shelf.new;
+      failed_now = H.failed shelf.new;
+    }) }
     ensures stop { IfErr result IsStop }
     ensures tells { H.told shelf.new ≡ H.told shelf.old }
     ensures ok { IfOk result (λ _. (H.faults shelf.new ≡ H.faults shelf.old) × (H.failed shelf.new ≡ H.failed shelf.old)) }
@@ -66,15 +66,20 @@ fn parse(alloc: Global, text: &[u8]) -> Result<Straight, Exit>
 }
 
 /// Runs the file that the words name, or answers why nothing was run.
-fn answer<H: Shelf, P: Pac>(alloc: Global, words: &[String], shelf: &mut H, host: &P) -> Result<Ran, Exit>
+fn answer<H: Shelf, P: Pac>(
+    alloc: Global,
+    words: &[String],
+    shelf: &mut H,
+    host: &P,
+) -> Result<Ran, Exit>
     ensures ran { IfOk result (λ ran. IsSomeAnd (file_to_run (map string_bytes words.now)) (λ name.
         SomeText (H.told shelf.old name) (λ text. IsReport (P.code host.now) text (report_text ran.output ran.end ran.log.entries false)))) }
     ensures cause { IfErr result (Cause (file_to_run (map string_bytes words.now)) record {
-        told = H.told shelf.old;
-        faults_before = H.faults shelf.old;
-        faults_now = H.faults shelf.new;
-        failed_now = H.failed shelf.new;
-      }) }
+      told = H.told shelf.old;
+      faults_before = H.faults shelf.old;
+      faults_now = H.faults shelf.new;
+      failed_now = H.failed shelf.new;
+    }) }
     ensures usage { file_to_run (map string_bytes words.now) ≡ None → (result ≡ Err (Exit.Usage UseFault.U1)) × (shelf.new ≡ shelf.old) }
     ensures stop { IfErr result IsStop }
     ensures tells { H.told shelf.new ≡ H.told shelf.old }
@@ -102,11 +107,11 @@ pub fn paclab<H: Shelf, S: Source, K: Sink, P: Pac>(
 ) -> Exit
     // Each answer has its cause, and each cause has its answer, unless memory is wanting.
     ensures cause { Cause (file_to_run (map string_bytes words.now)) record {
-        told = H.told shelf.old;
-        faults_before = H.faults shelf.old;
-        faults_now = H.faults shelf.new;
-        failed_now = H.failed shelf.new;
-      } result }
+      told = H.told shelf.old;
+      faults_before = H.faults shelf.old;
+      faults_now = H.faults shelf.new;
+      failed_now = H.failed shelf.new;
+    } result }
     ensures usage { file_to_run (map string_bytes words.now) ≡ None → (result ≡ Exit.Usage UseFault.U1) × (shelf.new ≡ shelf.old) }
     ensures refused { (refusal : Refusal) → IsSomeAnd (file_to_run (map string_bytes words.now)) (λ name.
         KnownText (H.told shelf.old name) (IsRefused refusal)) → ¬ Rose (H.faults shelf.old) (H.faults shelf.new)

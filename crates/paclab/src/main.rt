@@ -2,8 +2,8 @@
 #![tactic(auto)]
 
 use pa_io::{DiskShelf, StdinSource, StdoutSink};
-use pa_paclab::{Exit, paclab};
 use pa_pac::FoldPac;
+use pa_paclab::{Exit, paclab};
 use std::process::ExitCode;
 use std::{env, io};
 

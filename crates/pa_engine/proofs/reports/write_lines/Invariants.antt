@@ -7,5 +7,5 @@ use Rattle.pa_engine.proofs.reports.write_lines.Given as goal
 abbrev pub invariant-loop-entry : goal.invariant-loop-entry
 invariant-loop-entry g l =
     Written (g.K.Sink.written l.initial.out) (g.K.Sink.written l.out)
-      (l.initial.page ++ flat_map (shown_text l.short) l.entries) (l.page ++ flat_map (shown_text l.short) (drop l.entry-index l.entries))
+    (l.initial.page ++ flat_map (shown_text l.short) l.entries) (l.page ++ flat_map (shown_text l.short) (drop l.entry-index l.entries))
     × (g.K.Sink.faults l.initial.out ≤ g.K.Sink.faults l.out)

@@ -17,15 +17,15 @@ returns-in_err-write_all-clause-prefix g c =
 pub returns-clause-all : goal.returns-clause-all
 returns-clause-all g c =
     let e = report_text-pages c.args.output.now c.args.end c.args.entries.now c.args.short _ _ _ _ _ _
-      c.new-page.ensures c.push_output_line.ensures c.in_ok-flush.ensures.empty c.push.ensures c.push_end_line.ensures.text c.push_counts_line.ensures in
+    c.new-page.ensures c.push_output_line.ensures c.in_ok-flush.ensures.empty c.push.ensures c.push_end_line.ensures.text c.push_counts_line.ensures in
     on_ok_weaker c.write_lines.result
-      (λ p. both_written _ _ _ _ _ _ e c.in_ok-flush.ensures.all (both_written _ _ _ _ _ _ refl c.in_ok-write_all.ensures.all p))
-      c.write_lines.ensures.all
+    (λ p. both_written _ _ _ _ _ _ e c.in_ok-flush.ensures.all (both_written _ _ _ _ _ _ refl c.in_ok-write_all.ensures.all p))
+    c.write_lines.ensures.all
 
 pub returns-clause-prefix : goal.returns-clause-prefix
 returns-clause-prefix g c =
     let e = report_text-pages c.args.output.now c.args.end c.args.entries.now c.args.short _ _ _ _ _ _
-      c.new-page.ensures c.push_output_line.ensures c.in_ok-flush.ensures.empty c.push.ensures c.push_end_line.ensures.text c.push_counts_line.ensures in
+    c.new-page.ensures c.push_output_line.ensures c.in_ok-flush.ensures.empty c.push.ensures c.push_end_line.ensures.text c.push_counts_line.ensures in
     on_err_weaker c.write_lines.result
-      (λ p. cut_in_second _ _ _ _ _ _ e c.in_ok-flush.ensures.all (cut_in_second _ _ _ _ _ _ refl c.in_ok-write_all.ensures.all p))
-      c.write_lines.ensures.prefix
+    (λ p. cut_in_second _ _ _ _ _ _ e c.in_ok-flush.ensures.all (cut_in_second _ _ _ _ _ _ refl c.in_ok-write_all.ensures.all p))
+    c.write_lines.ensures.prefix

@@ -44,9 +44,9 @@ loop-count-preserved g c =
       here = turn.here;
       goes = goes;
       counted =
-        ap (λ (x : Machine). x.count) turn.machine
-        ∙ step_count code old.machine inv.goes (ap (λ (x : Machine). x.ended) (sym turn.machine) ∙ goes)
-        ∙ ap (λ n. n + 1) inv.counted;
+          ap (λ (x : Machine). x.count) turn.machine
+          ∙ step_count code old.machine inv.goes (ap (λ (x : Machine). x.ended) (sym turn.machine) ∙ goes)
+          ∙ ap (λ n. n + 1) inv.counted;
       pac = turn.pac;
       from = omega arith;
       most = omega arith;
