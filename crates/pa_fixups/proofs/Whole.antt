@@ -1,5 +1,5 @@
 -- A part whose checks find nothing is the bytes of what is read, and the bytes of fixups are read as these.
-use Rattle.std.proofs.Common.{◌≡◌, ℕ, zero, suc, ◌+◌, ◌-◌, ◌*◌, ◌/◌, ◌%◌, ◌≤◌, ◌<◌, ◌^◌, Bool, true, false, leb, ltb, eqb, ◌&&◌, min, List, [], ◌∷◌, ◌++◌, length, take, drop, map, replicate, Option, Some, None, Result, Ok, Err, refl, sym, ap, subst, ◌∙◌, arith}
+use Rattle.std.proofs.Common.{append_assoc, ◌≡◌, ℕ, zero, suc, ◌+◌, ◌-◌, ◌*◌, ◌/◌, ◌%◌, ◌≤◌, ◌<◌, ◌^◌, Bool, true, false, leb, ltb, eqb, ◌&&◌, min, List, [], ◌∷◌, ◌++◌, length, take, drop, map, replicate, Option, Some, None, Result, Ok, Err, refl, sym, ap, subst, ◌∙◌, arith}
 use Rattle.std.specs.Prelude.{IfOk}
 use Rattle.std.specs.List.{concat, after_first}
 use Rattle.std.proofs.Math.Nat.{min-eq_left}
@@ -169,4 +169,82 @@ parts_found at part bytes e =
     (
       bytes_are at f part pages stand (rw k end),
       record { pages = pages; header = rw k tables.header.1; segments = tables.segments.1; before_starts = tables.pages.1; starts = starts.1; imports = imports.1; names = are_names-cut count text },
+    )
+
+-- ---- what is written
+
+starts_none : (at : DataAt) (part : List ℕ) → imports_at at ≤ length part → IsAt part (starts_end at) (replicate (imports_at at - starts_end at) 0) → first (starts_checks at (length part)) part ≡ None
+unfolding starts_checks
+starts_none at part le p =
+    let low = min_is (starts_end at) (length part) (omega arith) in
+    let high = min_is (imports_at at) (length part) le in
+    none_first (starts_checks at (length part)) part (rw (low, high) p, (le-leb _ _ (omega arith), (le-leb _ _ (omega arith), tt)))
+
+tables_none : (at : DataAt) (count : ℕ) (part : List ℕ) → names_at at count < length part → TablesStand at count part → first (table_checks at count (length part)) part ≡ None
+unfolding table_checks
+tables_none at count part lt t =
+    none_first (table_checks at count (length part)) part (t.header, (t.segments, (t.pages, (le-leb _ _ (omega arith), (lt-ltb _ _ lt, tt)))))
+
+entries_none : (names : List (List ℕ)) (place at : ℕ) (part : List ℕ) → Values place (entries at names) part → first (entry_checks (length names) place part) part ≡ None
+entries_none [] place at part v = refl
+entries_none (name ∷ names) place at part v =
+    let low : eqb (number 4 place part % 2 ^ 9) 1 ≡ true = eq-eqb _ _ (omega arith) in
+    none_then _ _ (none_of_meets (Holds F2 place (eqb (number 4 place part % 2 ^ 9) 1)) part low) (entries_none names (place + 4) (at + (length name + 1)) part v.1)
+
+names_none : (names : List (List ℕ)) (place at : ℕ) (part rest : List ℕ) → are_names names ≡ true → Values place (entries at names) part → first (name_checks (length names) place at part (ended names ++ rest)) part ≡ None
+names_none [] place at part rest h v = refl
+names_none (name ∷ names) place at part rest h v =
+    let a = and_parts (is_name name) (are_names names) h in
+    let more = ended names ++ rest in
+    let text = name ++ (0 ∷ more) in
+    let b = begins name more a.0 in
+    let high : eqb (number 4 place part / 2 ^ 9) at ≡ true = eq-eqb _ _ (omega arith) in
+    let end : has_end text ≡ true = lt-ltb _ _ b.ends in
+    let here = none_of_meets (Holds F7 place (eqb (number 4 place part / 2 ^ 9) at && has_end text)) part (and_from (eqb (number 4 place part / 2 ^ 9) at) (has_end text) high end) in
+    let rest_none = names_none names (place + 4) (at + (length name + 1)) part rest a.1 v.1 in
+    let one : first (name_checks (suc (length names)) place at part text) part ≡ None = none_then _ _ here (rw (b.rest_is, b.length_is) rest_none) in
+    subst (λ (t : List ℕ). first (name_checks (suc (length names)) place at part t) part ≡ None) (sym (append_assoc name (0 ∷ ended names) rest)) one
+
+abbrev fixups_with : List ℕ → List (List ℕ) → Fixups
+fixups_with starts imports = record { starts = starts; imports = imports }
+
+told_count : (at : DataAt) (count : ℕ) (part : List ℕ) → IsAt part 0 (spelled (header_of at count)) × AllFit (header_of at count) → count_in part ≡ count
+unfolding header_of
+told_count at count part h = (values_at 0 (header_of at count) part h).1.1.1.1.0
+
+six_none : (a b c d e f : Option Flaw) → a ≡ None → b ≡ None → c ≡ None → d ≡ None → e ≡ None → f ≡ None → (a then b then c then d then e then f) ≡ None
+six_none a b c d e f p q r s t u = none_then a _ p (none_then b _ q (none_then c _ r (none_then d _ s (none_then e f t u))))
+
+no_end : (count : ℕ) (part text : List ℕ) → behind count text ≡ [] → flaw_of (end_check count part text) part ≡ None
+no_end count part text e = none_of_meets (end_check count part text) part (eq-eqb _ _ (ap length e))
+
+-- the bytes of fixups that fit have no flaw, and are read as these
+pub parts_only : (at : DataAt) (part : List ℕ) (fixups : Fixups) → FixupsFit at fixups → part ≡ fixups_bytes at fixups → (fixups_flaw at part ≡ None) × (taken at part ≡ fixups)
+unfolding fixups_flaw
+parts_only at part fixups fit b =
+    let imports : List (List ℕ) = fixups.imports in
+    let count = length imports in
+    let names = names_at at count in
+    let s = stands at fixups part fit.pages b in
+    let stand = s.0 in
+    let told : count_in part ≡ count = told_count at count part (stand.header, fit.header) in
+    let there : names_at at (count_in part) ≡ names = ap (names_at at) told in
+    let text : text_in at part ≡ ended imports ++ [] = ap (λ (n : ℕ). drop (n + 1) part) there ∙ IsAt-end part (names + 1) (ended imports) stand.names s.1 ∙ sym (append-nil (ended imports)) in
+    let v = values_at (imports_at at) (entries 1 imports) part (stand.imports, fit.imports) in
+    let cuts = cuts-ended imports [] fit.names in
+    let one : 1 ≡ names + 1 - names = omega arith in
+    let zero_byte : IsAt part names (replicate (names + 1 - names) 0) = subst (λ (k : ℕ). IsAt part names (replicate k 0)) one stand.zero_byte in
+    let row : numbers (length fixups.starts) 2 78 part ≡ fixups.starts = numbers-again fixups.starts 78 part (values_at 78 (map two fixups.starts) part (stand.starts, fit.starts)) in
+    (
+      six_none (first (starts_checks at (length part)) part) (first (table_checks at (count_in part) (length part)) part) (first (entry_checks (count_in part) (imports_at at) part) part)
+          (flaw_of (Zeros F2 (names_at at (count_in part)) (names_at at (count_in part) + 1)) part) (first (name_checks (count_in part) (imports_at at) 1 part (text_in at part)) part)
+          (flaw_of (end_check (count_in part) part (text_in at part)) part)
+          (starts_none at part (omega (arith, s.1)) stand.padding)
+          (ap (λ (n : ℕ). first (table_checks at n (length part)) part) told ∙ tables_none at count part (omega (arith, s.1)) (record { header = (stand.header, fit.header); segments = (stand.segments, fit.segments); pages = (stand.pages, fit.before_starts) }))
+          (ap (λ (n : ℕ). first (entry_checks n (imports_at at) part) part) told ∙ entries_none imports (imports_at at) 1 part v)
+          (ap (λ (n : ℕ). flaw_of (Zeros F2 n (n + 1)) part) there ∙ none_of_meets (Zeros F2 names (names + 1)) part zero_byte)
+          (ap (λ (n : ℕ). first (name_checks n (imports_at at) 1 part (text_in at part)) part) told ∙ ap (λ (l : List ℕ). first (name_checks count (imports_at at) 1 part l) part) text ∙ names_none imports (imports_at at) 1 part [] fit.names v)
+          (no_end (count_in part) part (text_in at part) (ap (λ (n : ℕ). behind n (text_in at part)) told ∙ ap (behind count) text ∙ cuts.rest_is)),
+      ap (λ (n : ℕ). fixups_with (numbers n 2 78 part) (cut (count_in part) (text_in at part))) (sym fit.pages) ∙ ap (λ (l : List ℕ). fixups_with l (cut (count_in part) (text_in at part))) row
+          ∙ ap (fixups_with fixups.starts) (ap (λ (n : ℕ). cut n (text_in at part)) told ∙ ap (cut count) text ∙ cuts.names_are),
     )
