@@ -21,7 +21,7 @@ use Rattle.pa_layout.proofs.CheckLaws.{all_met, none_first, meets_of_none, none_
 use Rattle.pa_layout.proofs.Pieces.{Piece, piece, AllAt, Chained, joined, pieces-whole, pieces-apart, length-joined}
 use Rattle.pa_fixups.specs.declared.tables.DataAt.{DataAt}
 use Rattle.pa_fixups.specs.declared.tables.Fixups.{Fixups}
-use Rattle.pa_fixups.specs.Fixups.{starts_end, imports_at, names_at, header_of, segments_of, pages_of, entry, entries, fixups_bytes, FixupsFit, count_in, text_in, taken, starts_checks, table_checks, entry_checks, name_checks, end_check, fixups_flaw}
+use Rattle.pa_fixups.specs.Fixups.{starts_end, imports_at, names_at, header_of, segments_of, pages_of, entry, entries, fixups_bytes, FixupsFit, IsPart, count_in, text_in, taken, starts_checks, table_checks, entry_checks, name_checks, end_check, fixups_flaw}
 use Rattle.pa_fixups.proofs.Parts.{starts_room, tables_room}
 
 -- ---- the parts at their places
@@ -248,3 +248,39 @@ parts_only at part fixups fit b =
       ap (λ (n : ℕ). fixups_with (numbers n 2 78 part) (cut (count_in part) (text_in at part))) (sym fit.pages) ∙ ap (λ (l : List ℕ). fixups_with l (cut (count_in part) (text_in at part))) row
           ∙ ap (fixups_with fixups.starts) (ap (λ (n : ℕ). cut n (text_in at part)) told ∙ ap (cut count) text ∙ cuts.names_are),
     )
+
+-- ---- answers
+
+pub is_found : (at : DataAt) (part : List ℕ) (result : Result Fixups (Fault ImageRule)) → IsBytes part → IfOk result (λ fixups. fixups ≡ taken at part) → AnswersOrMemory result (fixups_flaw at part)
+    → IfOk result (λ fixups. IsPart at fixups part)
+is_found at part (Ok fixups) bytes v a =
+    let p = parts_found at part bytes a in
+    subst (λ (f : Fixups). IsPart at f part) (sym v) (record { bytes_are = p.0; fit = p.1 })
+is_found at part (Err fault) bytes v a = tt
+
+pub is_only : (at : DataAt) (part : List ℕ) (result : Result Fixups (Fault ImageRule)) → IfOk result (λ fixups. fixups ≡ taken at part) → AnswersOrMemory result (fixups_flaw at part)
+    → (fixups : Fixups) → IsPart at fixups part → GivesOrMemory fixups result
+is_only at part (Ok given) v a fixups p = v ∙ (parts_only at part fixups p.fit p.bytes_are).1
+is_only at part (Err (Refused rule place)) v a fixups p = let e = (parts_only at part fixups p.fit p.bytes_are).0 in absurd cc
+is_only at part (Err Memory) v a fixups p = tt
+
+-- ---- writing
+
+pub count_small : (at : DataAt) (count : ℕ) → AllFit (header_of at count) → count < 2 ^ 32
+unfolding header_of
+count_small at count h = omega (arith, h.2.2.2.2.0)
+
+pub zeros_push : (count k : ℕ) (old whole : List ℕ) → k < count → old ++ replicate (count - k) 0 ≡ whole → (old ++ 0 ∷ []) ++ replicate (count - (k + 1)) 0 ≡ whole
+zeros_push count k old whole lt e =
+    let one : count - k ≡ suc (count - (k + 1)) = omega arith in
+    append_assoc old (0 ∷ []) (replicate (count - (k + 1)) 0) ∙ (rw one at e)
+
+-- the parts, put one behind the other
+pub parts_put : (at : DataAt) (fixups : Fixups) (o0 o1 o2 o3 o4 o5 o6 o7 o8 : List ℕ) → FixupsFit at fixups → o0 ≡ [] → o1 ≡ o0 ++ spelled (header_of at (length fixups.imports)) → o2 ≡ o1 ++ spelled (segments_of at)
+    → o3 ≡ o2 ++ spelled (pages_of at) → o4 ≡ o3 ++ spelled (map two fixups.starts) → o5 ≡ o4 ++ replicate (imports_at at - starts_end at) 0 → o6 ≡ o5 ++ spelled (entries 1 fixups.imports)
+    → o7 ≡ o6 ++ (0 ∷ []) → o8 ≡ o7 ++ ended fixups.imports → IsPart at fixups o8
+unfolding fixups_bytes
+parts_put at fixups o0 o1 o2 o3 o4 o5 o6 o7 o8 fit e0 e1 e2 e3 e4 e5 e6 e7 e8 = record {
+  bytes_are = rw (e8, e7, e6, e5, e4, e3, e2, e1, e0) (simp (append_assoc, append-nil));
+  fit = fit;
+}

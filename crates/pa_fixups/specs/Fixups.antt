@@ -74,6 +74,11 @@ pub record FixupsFit (at : DataAt) (fixups : Fixups) : Type 0 where
   pub imports : AllFit (entries 1 fixups.imports)
   pub names : are_names fixups.imports ≡ true
 
+-- the part of an image that holds just these fixups
+pub record IsPart (at : DataAt) (fixups : Fixups) (part : List ℕ) : Type 0 where
+  pub bytes_are : part ≡ fixups_bytes at fixups
+  pub fit : FixupsFit at fixups
+
 -- ---- reading
 
 -- how many imports the header tells

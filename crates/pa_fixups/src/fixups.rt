@@ -1,13 +1,17 @@
-ghost use Rattle.std.specs.Prelude.{◌≡◌, IfOk};
+ghost use Rattle.std.specs.Prelude.{◌≡◌, ◌++◌, map, replicate, IfOk, OnOk};
+ghost use Rattle.pa_layout.specs.Fields.{AllFit, spelled, two};
+ghost use Rattle.pa_layout.specs.Names.{ended};
 ghost use Rattle.pa_layout.specs.Flaws.{AnswersOrMemory, GivesOrMemory};
 ghost use Rattle.pa_fixups.specs.declared.tables.Fixups.{Fixups};
-ghost use Rattle.pa_fixups.specs.Fixups.{FixupsFit, fixups_bytes, fixups_flaw, taken};
+ghost use Rattle.pa_fixups.specs.Fixups.{FixupsFit, IsPart, entries, fixups_flaw, taken};
 
 use crate::imports::{check_entries, read_names, read_starts};
-use crate::tables::{DataAt, Fixups, STARTS, check_starts, check_tables};
-use pa_layout::{check, check_zeros, number_of_four};
-use pa_num::{Fault, ImageRule};
-use std::alloc::Global;
+use crate::tables::{
+    DataAt, Fixups, STARTS, check_starts, check_tables, header_fields, page_fields, segment_fields,
+};
+use pa_layout::{FileField, check, check_zeros, number_of_four, put_fields};
+use pa_num::{Fault, ImageRule, Memory, Name};
+use std::alloc::{AllocError, Global};
 
 /// The starts and the imports of a part, or the first flaw.
 #[tactic(auto, using(crate::proofs::Parts::starts_room, crate::proofs::Parts::tables_room), unfolding(crate::specs::Fixups::fixups_flaw))]
@@ -31,4 +35,78 @@ fn read_parts(alloc: Global, part: &[u8], at: DataAt) -> Result<Fixups, Fault<Im
         left == 0,
     )?;
     Ok(Fixups { starts, imports })
+}
+
+/// The fixups that a part of an image holds, or its first flaw with its place in the part. What pads the starts is H3, as
+/// where the image's bytes that have to be zero are checked.
+pub fn read_fixups(alloc: Global, part: &[u8], at: DataAt) -> Result<Fixups, Fault<ImageRule>>
+    // What is read is what the part holds, and what a part holds is read.
+    ensures found { IfOk result (λ fixups. IsPart at fixups part.now) }
+    ensures only { (fixups : Fixups) → IsPart at fixups part.now → GivesOrMemory fixups result }
+    ensures flaw { AnswersOrMemory result (fixups_flaw at part.now) }
+{
+    read_parts(alloc, part, at)
+}
+
+/// Appends the starts.
+fn put_starts(out: &mut Vec<u8>, starts: &[u16]) -> Result<(), AllocError>
+    requires { AllFit (map two starts.now) }
+    ensures { OnOk result (out.new.items ≡ out.old.items ++ spelled (map two starts.now)) }
+{
+    for start in starts {
+        put_fields(out, &[FileField::two(*start as u128)])?;
+    }
+    Ok(())
+}
+
+/// Appends `count` zeros.
+fn put_zeros(out: &mut Vec<u8>, count: usize) -> Result<(), AllocError>
+    ensures { OnOk result (out.new.items ≡ out.old.items ++ replicate count 0) }
+{
+    for _ in 0..count {
+        out.push(0)?;
+    }
+    Ok(())
+}
+
+/// Appends the entries of imports whose names begin behind one zero byte.
+fn put_entries(out: &mut Vec<u8>, names: &[Name]) -> Result<(), AllocError>
+    requires { AllFit (entries 1 names.now) }
+    ensures { OnOk result (out.new.items ≡ out.old.items ++ spelled (entries 1 names.now)) }
+{
+    let mut place: u128 = 1;
+    for name in names {
+        put_fields(out, &[FileField::four(1 + 512 * place)])?;
+        place += name.len() as u128 + 1;
+    }
+    Ok(())
+}
+
+/// Appends each name with a zero byte behind it.
+fn put_names(out: &mut Vec<u8>, names: &[Name]) -> Result<(), AllocError>
+    ensures { OnOk result (out.new.items ≡ out.old.items ++ ended names.now) }
+{
+    for name in names {
+        out.extend_from_slice(name.as_slice())?;
+        out.push(0)?;
+    }
+    Ok(())
+}
+
+/// The part of an image that holds the fixups.
+pub fn write_fixups(alloc: Global, fixups: &Fixups, at: DataAt) -> Result<Vec<u8>, Memory>
+    requires { FixupsFit at fixups.now }
+    ensures { IfOk result (λ part. IsPart at fixups.now part.items) }
+{
+    let names = fixups.imports.as_slice();
+    let mut out = Vec::new(alloc);
+    put_fields(&mut out, &header_fields(at, names.len() as u32))?;
+    put_fields(&mut out, &segment_fields(at))?;
+    put_fields(&mut out, &page_fields(at))?;
+    put_starts(&mut out, fixups.starts.as_slice())?;
+    put_zeros(&mut out, at.imports() - at.starts_end())?;
+    put_entries(&mut out, names)?;
+    put_zeros(&mut out, 1)?;
+    put_names(&mut out, names)?;
+    Ok(out)
 }
