@@ -1,20 +1,19 @@
 -- A chain that is written is read, and one that is read was written so.
-use Rattle.std.proofs.Common.{◌≡◌, ℕ, zero, suc, ◌+◌, ◌-◌, ◌*◌, ◌/◌, ◌≤◌, ◌<◌, ◌^◌, ◌%◌, Bool, true, false, cond, leb, ltb, eqb, ◌&&◌, ◌||◌, not, List, [], ◌∷◌, ◌++◌, length, Option, Some, None, Result, Ok, Err, refl, sym, ap, subst, ◌∙◌, arith, inl, inr, map, get_or, drop}
+use Rattle.std.proofs.Common.{◌≡◌, ℕ, zero, suc, ◌+◌, ◌-◌, ◌*◌, ◌/◌, ◌≤◌, ◌<◌, ◌^◌, ◌%◌, Bool, true, false, cond, eqb, ◌||◌, not, List, [], ◌∷◌, length, None, Result, Ok, Err, refl, sym, ap, subst, ◌∙◌, arith, map}
 use Rattle.std.specs.Prelude.{IfOk}
 use Rattle.std.proofs.lemmas.Bool.{eqb-true, eqb-false, eq-eqb, ne_eqb, and_parts}
 use Rattle.pa_num.specs.declared.fault.ImageRule.{ImageRule}
 use Rattle.pa_num.specs.declared.fault.ImageRule.TheVariants.{F3, F4, F5, F6}
 use Rattle.pa_num.specs.declared.fault.Fault.{Fault}
 use Rattle.pa_num.specs.declared.fault.Fault.TheVariants.{Refused, Memory}
-use Rattle.pa_layout.specs.declared.checks.Flaw.{Flaw}
-use Rattle.pa_layout.specs.Flaws.{Check, Holds, flaw_of, first, flaw_at, AnswersOrMemory, GivesOrMemory, ◌then◌}
+use Rattle.pa_layout.specs.Flaws.{Holds, flaw_of, first, AnswersOrMemory, GivesOrMemory}
 use Rattle.pa_layout.proofs.Laws.{IsBytes, number-lt}
 use Rattle.pa_layout.proofs.Facts.{then_none, each_none, holds_true}
 use Rattle.pa_fixups.specs.declared.kind.FixKind.{FixKind}
 use Rattle.pa_fixups.specs.declared.kind.Fix.{Fix}
 use Rattle.pa_fixups.specs.declared.bounds.Bounds.{Bounds}
-use Rattle.pa_fixups.specs.Slots.{kind_of, next_of, zeros_hold, slot_of, packed, parts_of, FieldsFit}
-use Rattle.pa_fixups.specs.Chain.{may_stand, links_on, ordinal_fits, target_fits, word_at, link_at, fix_at, places, chain_places, slot_checks, first_at, slots_flaw, chain_flaw, no_place, link_to, word_of, Linked, FixFits, AllFit, Rising, IsChain}
+use Rattle.pa_fixups.specs.Slots.{kind_of, zeros_hold, slot_of, packed, parts_of, FieldsFit}
+use Rattle.pa_fixups.specs.Chain.{may_stand, links_on, ordinal_fits, target_fits, word_at, link_at, fix_at, places, chain_places, slot_checks, first_at, slots_flaw, Linked, FixFits, AllFit, Rising, IsChain}
 use Rattle.pa_fixups.proofs.SlotLaws.{slot_of-packed, IsWordOf-kind_of}
 use Rattle.pa_fixups.proofs.Walk.{slot_ok, stands_inside, ends_at, goes_on, fixes_from}
 
@@ -144,13 +143,13 @@ chain_taken (suc n) bounds page at bytes h enough e =
     let p = slot_passed bounds page at bytes h s.0 in
     let next = at + 8 * link_at page at in
     let go : (t : Bool) → ends_at bounds page at ≡ t → first_at (λ at. slot_checks bounds page at) page (cond t [] (places (suc n) bounds page next)) ≡ None → Taken bounds page at (cond t [] (places (suc n) bounds page next)) =
-        λ t. elim t as (λ t. ends_at bounds page at ≡ t → first_at (λ at. slot_checks bounds page at) page (cond t [] (places (suc n) bounds page next)) ≡ None → Taken bounds page at (cond t [] (places (suc n) bounds page next))) [
-          | true ↦ λ q f. taken_last bounds page at p (eqb-true _ _ (stops (eqb (link_at page at) 0) (may_stand bounds (length page) next) q p.on))
-          | false ↦ λ q f.
-            let g = goes_on (eqb (link_at page at) 0) (may_stand bounds (length page) next) q in
-            let ne = eqb-false (link_at page at) 0 g.0 in
-            taken_on bounds page at next (after n bounds page next) p ne refl (chain_taken n bounds page next bytes g.1 (omega arith) f)
-        ] in
+    λ t. elim t as (λ t. ends_at bounds page at ≡ t → first_at (λ at. slot_checks bounds page at) page (cond t [] (places (suc n) bounds page next)) ≡ None → Taken bounds page at (cond t [] (places (suc n) bounds page next))) [
+      | true ↦ λ q f. taken_last bounds page at p (eqb-true _ _ (stops (eqb (link_at page at) 0) (may_stand bounds (length page) next) q p.on))
+      | false ↦ λ q f.
+          let g = goes_on (eqb (link_at page at) 0) (may_stand bounds (length page) next) q in
+          let ne = eqb-false (link_at page at) 0 g.0 in
+          taken_on bounds page at next (after n bounds page next) p ne refl (chain_taken n bounds page next bytes g.1 (omega arith) f)
+    ] in
     go (ends_at bounds page at) refl s.1
 
 -- ---- the chain
@@ -175,10 +174,11 @@ pub chain_only : (bounds : Bounds) (page : List ℕ) (from : ℕ) (fixes : List 
 unfolding chain_places
 chain_only bounds page from [] short c = absurd c
 chain_only bounds page from (fix ∷ fixes) short c =
-    let a = chain_again (length page - fix.at) bounds page fix fixes short (omega arith) c.2 c.1 c.3 in
-    (ap (may_stand bounds (length page)) (sym c.0) ∙ c.2.0.stands,
-        ap (λ (n : ℕ). map (λ at. fix_at page at) (places (length page - n) bounds page n)) (sym c.0) ∙ a.fixes_are,
-        ap (λ (n : ℕ). first_at (λ at. slot_checks bounds page at) page (places (length page - n) bounds page n)) (sym c.0) ∙ a.flaw)
+    let a = chain_again (length page - fix.at) bounds page fix fixes short (omega arith) c.2 c.1 c.3 in (
+      ap (may_stand bounds (length page)) (sym c.0) ∙ c.2.0.stands,
+      ap (λ (n : ℕ). map (λ at. fix_at page at) (places (length page - n) bounds page n)) (sym c.0) ∙ a.fixes_are,
+      ap (λ (n : ℕ). first_at (λ at. slot_checks bounds page at) page (places (length page - n) bounds page n)) (sym c.0) ∙ a.flaw,
+    )
 
 -- ---- answers
 

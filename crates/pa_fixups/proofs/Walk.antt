@@ -1,18 +1,16 @@
 -- The slots of a chain, one after the other.
-use Rattle.std.proofs.Common.{◌≡◌, ℕ, zero, suc, ◌+◌, ◌-◌, ◌*◌, ◌/◌, ◌≤◌, ◌<◌, ◌^◌, ◌%◌, Bool, true, false, cond, leb, ltb, eqb, ◌&&◌, ◌||◌, not, List, [], ◌∷◌, ◌++◌, length, Option, Some, None, Result, Ok, Err, refl, sym, ap, subst, ◌∙◌, arith, inl, inr, map, append_assoc}
-use Rattle.std.proofs.lemmas.Bool.{leb-true, eqb-true, eqb-false, eq-eqb, ne_eqb, and_parts}
+use Rattle.std.proofs.Common.{◌≡◌, ℕ, zero, suc, ◌+◌, ◌-◌, ◌*◌, ◌≤◌, Bool, true, false, cond, eqb, ◌||◌, not, List, [], ◌∷◌, ◌++◌, length, Some, None, Ok, Err, refl, sym, ap, subst, ◌∙◌, arith, map, append_assoc}
+use Rattle.std.proofs.lemmas.Bool.{leb-true, eqb-false, eq-eqb, ne_eqb, and_parts}
 use Rattle.pa_num.specs.declared.fault.ImageRule.{ImageRule}
-use Rattle.pa_num.specs.declared.fault.ImageRule.TheVariants.{F3, F4, F5, F6}
-use Rattle.pa_num.specs.declared.fault.Fault.{Fault}
-use Rattle.pa_num.specs.declared.fault.Fault.TheVariants.{Refused, Memory}
+use Rattle.pa_num.specs.declared.fault.ImageRule.TheVariants.{F3, F4}
 use Rattle.pa_layout.specs.declared.checks.Flaw.{Flaw}
-use Rattle.pa_layout.specs.Flaws.{Check, Holds, flaw_of, first, flaw_at, Answers, AnswersOrMemory, ◌then◌}
-use Rattle.pa_layout.proofs.Facts.{then_none, each_none, holds_true}
+use Rattle.pa_layout.specs.Flaws.{Holds, flaw_of, first, flaw_at}
+use Rattle.pa_layout.proofs.Facts.{each_none, holds_true}
 use Rattle.pa_fixups.specs.declared.kind.FixKind.{FixKind}
 use Rattle.pa_fixups.specs.declared.kind.Fix.{Fix}
 use Rattle.pa_fixups.specs.declared.bounds.Bounds.{Bounds}
 use Rattle.pa_fixups.specs.Slots.{kind_of, next_of, zeros_hold, slot_of}
-use Rattle.pa_fixups.specs.Chain.{may_stand, links_on, word_at, link_at, fix_at, places, chain_places, slot_checks, first_at, slots_flaw, chain_flaw}
+use Rattle.pa_fixups.specs.Chain.{may_stand, links_on, link_at, fix_at, places, chain_places, slot_checks, first_at, slots_flaw}
 
 -- ---- one slot
 
@@ -56,13 +54,13 @@ places_more (suc n) (suc m) bounds page at h ln lm =
     let i = stands_inside bounds (length page) at h in
     let next = at + 8 * link_at page at in
     let go : (t : Bool) → ends_at bounds page at ≡ t → cond t [] (places n bounds page next) ≡ cond t [] (places m bounds page next) =
-        λ t. elim t as (λ t. ends_at bounds page at ≡ t → cond t [] (places n bounds page next) ≡ cond t [] (places m bounds page next)) [
-          | true ↦ λ e. refl
-          | false ↦ λ e.
-            let g = goes_on (eqb (link_at page at) 0) (may_stand bounds (length page) next) e in
-            let ne = eqb-false (link_at page at) 0 g.0 in
-            places_more n m bounds page next g.1 (omega arith) (omega arith)
-        ] in
+    λ t. elim t as (λ t. ends_at bounds page at ≡ t → cond t [] (places n bounds page next) ≡ cond t [] (places m bounds page next)) [
+      | true ↦ λ e. refl
+      | false ↦ λ e.
+          let g = goes_on (eqb (link_at page at) 0) (may_stand bounds (length page) next) e in
+          let ne = eqb-false (link_at page at) 0 g.0 in
+          places_more n m bounds page next g.1 (omega arith) (omega arith)
+    ] in
     ap (λ (r : List ℕ). at ∷ r) (go (ends_at bounds page at) refl)
 
 places_on : (k n : ℕ) (bounds : Bounds) (page : List ℕ) (at : ℕ) → k ≡ suc n → eqb (link_at page at) 0 ≡ false → may_stand bounds (length page) (at + 8 * link_at page at) ≡ true → places k bounds page at ≡ at ∷ places n bounds page (at + 8 * link_at page at)

@@ -1,27 +1,26 @@
 -- A part whose checks find nothing is the bytes of what is read, and the bytes of fixups are read as these.
-use Rattle.std.proofs.Common.{append_assoc, ◌≡◌, ℕ, zero, suc, ◌+◌, ◌-◌, ◌*◌, ◌/◌, ◌%◌, ◌≤◌, ◌<◌, ◌^◌, Bool, true, false, leb, ltb, eqb, ◌&&◌, min, List, [], ◌∷◌, ◌++◌, length, take, drop, map, replicate, Option, Some, None, Result, Ok, Err, refl, sym, ap, subst, ◌∙◌, arith}
+use Rattle.std.proofs.Common.{append_assoc, ◌≡◌, ℕ, zero, suc, ◌+◌, ◌-◌, ◌*◌, ◌/◌, ◌%◌, ◌≤◌, ◌<◌, ◌^◌, true, leb, eqb, ◌&&◌, min, List, [], ◌∷◌, ◌++◌, length, drop, map, replicate, Option, None, Result, Ok, Err, refl, sym, ap, subst, ◌∙◌, arith}
 use Rattle.std.specs.Prelude.{IfOk}
-use Rattle.std.specs.List.{concat, after_first}
+use Rattle.std.specs.List.{after_first}
 use Rattle.std.proofs.Math.Nat.{min-eq_left}
 use Rattle.std.proofs.lemmas.Bool.{eqb-true, eq-eqb, and_parts, and_from, le-leb, lt-ltb, ltb-true}
-use Rattle.std.proofs.lemmas.List.{length-append, length-replicate, length-drop, append-nil, nil_from_length}
+use Rattle.std.proofs.lemmas.List.{length-replicate, length-drop, append-nil, nil_from_length}
 use Rattle.pa_num.specs.declared.fault.ImageRule.{ImageRule}
 use Rattle.pa_num.specs.declared.fault.ImageRule.TheVariants.{H3, F1, F2, F7}
 use Rattle.pa_num.specs.declared.fault.Fault.{Fault}
 use Rattle.pa_num.specs.declared.fault.Fault.TheVariants.{Refused, Memory}
 use Rattle.pa_layout.specs.declared.checks.Flaw.{Flaw}
-use Rattle.pa_layout.specs.declared.field.FileField.{FileField}
 use Rattle.pa_layout.specs.Fields.{number, numbers, two, spelled, size_of, AllFit, wrong_from, IsAt}
-use Rattle.pa_layout.specs.Flaws.{Check, Zeros, Holds, Fields, first, flaw_of, AllMet, AnswersOrMemory, GivesOrMemory, ◌then◌}
+use Rattle.pa_layout.specs.Flaws.{Zeros, Holds, first, flaw_of, AnswersOrMemory, GivesOrMemory, ◌then◌}
 use Rattle.pa_layout.specs.Names.{is_zero, ended, are_names, is_name, name_length, has_end, cut, behind}
-use Rattle.pa_layout.proofs.Laws.{IsBytes, IsAt-rest, IsAt-end, IsAt-itself, stand-spelled, length-spelled, numbers-stand, numbers-again, length-numbers, size_of-twos, Values, values_at, number-lt}
+use Rattle.pa_layout.proofs.Laws.{IsBytes, IsAt-rest, IsAt-end, IsAt-itself, stand-spelled, length-spelled, numbers-stand, numbers-again, length-numbers, size_of-twos, Values, values_at}
 use Rattle.pa_layout.proofs.NameLaws.{HaveEnds, length-before_first, are_names-cut, length-cut, ended-cut, cuts-ended, begins}
 use Rattle.pa_layout.proofs.Facts.{then_none, none_then, each_none, holds_true}
 use Rattle.pa_layout.proofs.CheckLaws.{all_met, none_first, meets_of_none, none_of_meets}
-use Rattle.pa_layout.proofs.Pieces.{Piece, piece, AllAt, Chained, joined, pieces-whole, pieces-apart, length-joined}
+use Rattle.pa_layout.proofs.Pieces.{Piece, piece, Chained, joined, pieces-whole, pieces-apart, length-joined}
 use Rattle.pa_fixups.specs.declared.tables.DataAt.{DataAt}
 use Rattle.pa_fixups.specs.declared.tables.Fixups.{Fixups}
-use Rattle.pa_fixups.specs.Fixups.{starts_end, imports_at, names_at, header_of, segments_of, pages_of, entry, entries, fixups_bytes, FixupsFit, IsPart, count_in, text_in, taken, starts_checks, table_checks, entry_checks, name_checks, end_check, fixups_flaw}
+use Rattle.pa_fixups.specs.Fixups.{starts_end, imports_at, names_at, header_of, segments_of, pages_of, entries, fixups_bytes, FixupsFit, IsPart, count_in, text_in, taken, starts_checks, table_checks, entry_checks, name_checks, end_check, fixups_flaw}
 use Rattle.pa_fixups.proofs.Parts.{starts_room, tables_room}
 
 -- ---- the parts at their places
@@ -62,7 +61,7 @@ bytes_are : (at : DataAt) (fixups : Fixups) (part : List ℕ) → length fixups.
 unfolding fixups_bytes
 bytes_are at fixups part e s end =
     pieces-whole part (pieces at fixups) (subst (Chained 0 (pieces at fixups)) end (chained at fixups e))
-        (s.header, (s.segments, (s.pages, (s.starts, (s.padding, (s.imports, (s.zero_byte, (s.names, tt))))))))
+    (s.header, (s.segments, (s.pages, (s.starts, (s.padding, (s.imports, (s.zero_byte, (s.names, tt))))))))
 
 -- and stand in them
 stands : (at : DataAt) (fixups : Fixups) (part : List ℕ) → length fixups.starts ≡ at.pages → part ≡ fixups_bytes at fixups → Stands at fixups part × (names_at at (length fixups.imports) + 1 + length (ended fixups.imports) ≡ length part)
@@ -72,8 +71,7 @@ stands at fixups part e b =
     let c = chained at fixups e in
     let here : IsAt part 0 (joined (pieces at fixups)) = subst (λ (l : List ℕ). IsAt part 0 l) b (IsAt-itself part) in
     let a = pieces-apart part 0 (pieces at fixups) end c here in
-    let len = length-joined 0 (pieces at fixups) end c in
-    (
+    let len = length-joined 0 (pieces at fixups) end c in (
       record { header = a.0; segments = a.1.0; pages = a.1.1.0; starts = a.1.1.1.0; padding = a.1.1.1.1.0; imports = a.1.1.1.1.1.0; zero_byte = a.1.1.1.1.1.1.0; names = a.1.1.1.1.1.1.1.0 },
       omega (arith, ap length b),
     )
@@ -145,8 +143,8 @@ parts_found at part bytes e =
     let text = text_in at part in
     let f = taken at part in
     let n =
-        six_nones (first (starts_checks at (length part)) part) (first (table_checks at count (length part)) part) (first (entry_checks count (imports_at at) part) part) (flaw_of (Zeros F2 names (names + 1)) part)
-            (first (name_checks count (imports_at at) 1 part text) part) (flaw_of (end_check count part text) part) e in
+    six_nones (first (starts_checks at (length part)) part) (first (table_checks at count (length part)) part) (first (entry_checks count (imports_at at) part) part) (flaw_of (Zeros F2 names (names + 1)) part)
+    (first (name_checks count (imports_at at) 1 part text) part) (flaw_of (end_check count part text) part) e in
     let room = starts_room at part n.0 in
     let room' = tables_room at count part n.1 in
     let tables = tables_stand at count part bytes (omega arith) n.1 in
@@ -161,12 +159,17 @@ parts_found at part bytes e =
     let last : IsAt part (names + 1) (ended (cut count text)) = subst (λ (l : List ℕ). IsAt part (names + 1) l) whole (IsAt-rest part (names + 1) (omega arith)) in
     let k : length (cut count text) ≡ count = length-cut count text in
     let stand : Stands at f part = record {
-        header = rw k tables.header.0; segments = tables.segments.0; pages = tables.pages.0; starts = starts.0; padding = padding; imports = imports.0;
-        zero_byte = rw k zero_byte; names = rw k last;
+      header = rw k tables.header.0;
+      segments = tables.segments.0;
+      pages = tables.pages.0;
+      starts = starts.0;
+      padding = padding;
+      imports = imports.0;
+      zero_byte = rw k zero_byte;
+      names = rw k last;
     } in
     let end : names + 1 + length (ended (cut count text)) ≡ length part = omega (arith, ap length whole, length-drop (names + 1) part) in
-    let pages : length (numbers at.pages 2 78 part) ≡ at.pages = length-numbers at.pages 2 78 part in
-    (
+    let pages : length (numbers at.pages 2 78 part) ≡ at.pages = length-numbers at.pages 2 78 part in (
       bytes_are at f part pages stand (rw k end),
       record { pages = pages; header = rw k tables.header.1; segments = tables.segments.1; before_starts = tables.pages.1; starts = starts.1; imports = imports.1; names = are_names-cut count text },
     )
@@ -234,8 +237,7 @@ parts_only at part fixups fit b =
     let cuts = cuts-ended imports [] fit.names in
     let one : 1 ≡ names + 1 - names = omega arith in
     let zero_byte : IsAt part names (replicate (names + 1 - names) 0) = subst (λ (k : ℕ). IsAt part names (replicate k 0)) one stand.zero_byte in
-    let row : numbers (length fixups.starts) 2 78 part ≡ fixups.starts = numbers-again fixups.starts 78 part (values_at 78 (map two fixups.starts) part (stand.starts, fit.starts)) in
-    (
+    let row : numbers (length fixups.starts) 2 78 part ≡ fixups.starts = numbers-again fixups.starts 78 part (values_at 78 (map two fixups.starts) part (stand.starts, fit.starts)) in (
       six_none (first (starts_checks at (length part)) part) (first (table_checks at (count_in part) (length part)) part) (first (entry_checks (count_in part) (imports_at at) part) part)
           (flaw_of (Zeros F2 (names_at at (count_in part)) (names_at at (count_in part) + 1)) part) (first (name_checks (count_in part) (imports_at at) 1 part (text_in at part)) part)
           (flaw_of (end_check (count_in part) part (text_in at part)) part)

@@ -1,18 +1,17 @@
 -- What a page holds once its slots are written, and once they are erased.
-use Rattle.std.proofs.Common.{◌≡◌, ℕ, zero, suc, ◌+◌, ◌-◌, ◌*◌, ◌/◌, ◌≤◌, ◌<◌, ◌^◌, ◌%◌, Bool, true, false, List, [], ◌∷◌, ◌++◌, length, take, drop, get_or, replicate, refl, sym, ap, subst, ◌∙◌, arith, append_assoc}
-use Rattle.std.proofs.lemmas.List.{take_at, drop_at, length-append, length-take, length-drop, drop-drop, length-take-le, take-append-drop, drop-append-le, take-append-le}
+use Rattle.std.proofs.Common.{◌≡◌, ℕ, ◌+◌, ◌-◌, ◌≤◌, ◌<◌, ◌^◌, List, [], ◌∷◌, ◌++◌, length, take, drop, replicate, refl, sym, ap, subst, ◌∙◌, arith, append_assoc}
+use Rattle.std.proofs.lemmas.List.{take_at, drop_at, length-append, length-drop, length-take-le, take-append-drop, drop-append-le}
 use Rattle.std.proofs.lemmas.Int.{ints}
 use Rattle.std.specs.Prelude.{ℤ, pos, negsuc, ◌<ℤ◌}
 use Rattle.byteorder.specs.Endian.{little_bytes, little_number}
 use Rattle.byteorder.specs.Numbers.{little_number-reads_back, little_from-append, length-bytes_low_first}
-use Rattle.pa_pac.specs.Key.{key_number}
 use Rattle.pa_layout.specs.Fields.{number, IsAt}
 use Rattle.pa_layout.proofs.Laws.{IsBytes, number-spelled}
 use Rattle.pa_fixups.specs.declared.kind.FixKind.{FixKind}
 use Rattle.pa_fixups.specs.declared.kind.FixKind.TheVariants.{Rebase, Bind, AuthRebase, AuthBind}
 use Rattle.pa_fixups.specs.declared.kind.Fix.{Fix}
-use Rattle.pa_fixups.specs.Slots.{packed, parts_of, FieldsFit, bit, low_bits}
-use Rattle.pa_fixups.specs.Chain.{word_at, link_to, word_of, Linked, Rising, CanStand, AreWritable, put_at, with_slots, without_slots}
+use Rattle.pa_fixups.specs.Slots.{packed, parts_of, FieldsFit, low_bits}
+use Rattle.pa_fixups.specs.Chain.{word_at, link_to, word_of, Linked, AreWritable, put_at, with_slots, without_slots}
 use Rattle.pa_fixups.proofs.SlotLaws.{bit-lt}
 
 pub link_small : (fix : Fix) (fixes : List Fix) (len : ℕ) → len ≤ 0x4000 → AreWritable len (fix ∷ fixes) → link_to fix fixes < 2 ^ 11
@@ -67,7 +66,7 @@ slots_below below len (fix ∷ fixes) page e w a =
     let l = length-word (word_of fix fixes) in
     let i = w.0.inside in
     slots_below below len fixes (put_at fix.at (little_bytes 8 (word_of fix fixes)) page) (length-put_at fix.at (little_bytes 8 (word_of fix fixes)) page (omega arith) ∙ e) w.2 a.1
-        ∙ put_below fix.at below (little_bytes 8 (word_of fix fixes)) page (omega arith) a.0
+    ∙ put_below fix.at below (little_bytes 8 (word_of fix fixes)) page (omega arith) a.0
 
 above_less : (x y : ℕ) (fixes : List Fix) → x ≤ y → Above y fixes → Above x fixes
 above_less x y [] le a = tt
@@ -149,7 +148,7 @@ puts_commute a b p q page apart le =
     let l2 = length-drop (length p) (drop a page) in
     let l3 = length-drop (b - (a + length p)) (drop (length p) (drop a page)) in
     let e : page ≡ front ++ (old ++ (mid ++ (new ++ back))) =
-        cut_off a page ∙ ap (λ (l : List ℕ). front ++ l) (cut_off (length p) r1 ∙ ap (λ (l : List ℕ). old ++ l) (cut_off m r2 ∙ ap (λ (l : List ℕ). mid ++ l) (cut_off (length q) r3))) in
+    cut_off a page ∙ ap (λ (l : List ℕ). front ++ l) (cut_off (length p) r1 ∙ ap (λ (l : List ℕ). old ++ l) (cut_off m r2 ∙ ap (λ (l : List ℕ). mid ++ l) (cut_off (length q) r3))) in
     let la : length front ≡ a = length-take-le a page (omega arith) in
     let lo : length old ≡ length p = length-take-le (length p) r1 (omega arith) in
     let lm : length mid ≡ m = length-take-le m r2 (omega arith) in
@@ -174,7 +173,7 @@ without_put a len p page [] e l w above = refl
 without_put a len p page (fix ∷ fixes) e l w above =
     let i = w.0.inside in
     without_put a len p (put_at fix.at zeros8 page) fixes (length-put_at fix.at zeros8 page (omega arith) ∙ e) l w.2 above.1
-        ∙ ap (λ (x : List ℕ). without_slots x fixes) (puts_commute a fix.at p zeros8 page (omega (arith, above.0)) (omega arith))
+    ∙ ap (λ (x : List ℕ). without_slots x fixes) (puts_commute a fix.at p zeros8 page (omega (arith, above.0)) (omega arith))
 
 -- to erase slots before they are written changes nothing
 pub with_slots-without_slots : (len : ℕ) (fixes : List Fix) (page : List ℕ) → length page ≡ len → AreWritable len fixes → with_slots (without_slots page fixes) fixes ≡ with_slots page fixes

@@ -1,5 +1,5 @@
 -- The slots of a page along their links (mach-o/fixup-chains.h: dyld_chained_starts_in_segment).
-use Rattle.std.specs.Prelude.{◌≡◌, ℕ, zero, suc, ◌+◌, ◌-◌, ◌*◌, ◌/◌, ◌%◌, ◌<◌, ◌≤◌, ◌++◌, take, drop, Bool, true, false, ◌&&◌, ◌||◌, not, ◌==◌, nat_le, nat_lt, if◌then◌else◌, List, [], ◌∷◌, length, map, replicate, Option, Some, None}
+use Rattle.std.specs.Prelude.{◌≡◌, ℕ, zero, suc, ◌+◌, ◌-◌, ◌*◌, ◌/◌, ◌%◌, ◌<◌, ◌≤◌, ◌++◌, take, drop, Bool, true, ◌&&◌, ◌||◌, not, ◌==◌, nat_le, nat_lt, if◌then◌else◌, List, [], ◌∷◌, length, replicate, Option, Some, None}
 use Rattle.byteorder.specs.Endian.{little_bytes}
 use Rattle.pa_num.specs.declared.fault.ImageRule.TheVariants.{F3, F4, F5, F6}
 use Rattle.pa_layout.specs.declared.checks.Flaw.{Flaw}
@@ -23,8 +23,8 @@ may_stand bounds len at =
     let place = bounds.page + at in
     let cells = up16 bounds.got in
     (at % 8 == 0)
-        && (nat_le (at + 8) len
-            && (nat_le (place + 8) bounds.got || (nat_le cells place && nat_le (place + 8) (cells + bounds.cells))))
+    && (nat_le (at + 8) len
+    && (nat_le (place + 8) bounds.got || (nat_le cells place && nat_le (place + 8) (cells + bounds.cells))))
 
 -- an ordinal is that of an import
 unfoldable pub ordinal_fits : Bounds → FixKind → Bool

@@ -1,6 +1,6 @@
 -- The fixups of an image: a header, the starts of the pages' chains, the imports and their names (mach-o/fixup-chains.h:
 -- dyld_chained_fixups_header, .._starts_in_image, .._starts_in_segment, .._import).
-use Rattle.std.specs.Prelude.{◌≡◌, ℕ, zero, suc, ◌+◌, ◌-◌, ◌*◌, ◌/◌, ◌%◌, ◌^◌, Bool, true, ◌&&◌, ◌==◌, nat_le, nat_lt, if◌then◌else◌, min, List, [], ◌∷◌, ◌++◌, length, drop, map, replicate, Option}
+use Rattle.std.specs.Prelude.{◌≡◌, ℕ, zero, suc, ◌+◌, ◌-◌, ◌*◌, ◌/◌, ◌%◌, ◌^◌, true, ◌&&◌, ◌==◌, nat_le, nat_lt, if◌then◌else◌, min, List, [], ◌∷◌, length, drop, map, replicate, Option}
 use Rattle.std.specs.List.{concat, after_first}
 use Rattle.pa_num.specs.declared.fault.ImageRule.TheVariants.{H3, F1, F2, F7}
 use Rattle.pa_layout.specs.declared.checks.Flaw.{Flaw}
@@ -61,8 +61,8 @@ unfoldable pub fixups_bytes : DataAt → Fixups → List ℕ
 fixups_bytes at fixups =
     let count = length fixups.imports in
     concat
-        (spelled (header_of at count) ∷ spelled (segments_of at) ∷ spelled (pages_of at) ∷ spelled (map two fixups.starts)
-        ∷ replicate (imports_at at - starts_end at) 0 ∷ spelled (entries 1 fixups.imports) ∷ (0 ∷ []) ∷ ended fixups.imports ∷ [])
+    (spelled (header_of at count) ∷ spelled (segments_of at) ∷ spelled (pages_of at) ∷ spelled (map two fixups.starts)
+    ∷ replicate (imports_at at - starts_end at) 0 ∷ spelled (entries 1 fixups.imports) ∷ (0 ∷ []) ∷ ended fixups.imports ∷ [])
 
 -- there is a start for each page, each number has room in its field, and no name has a zero byte
 pub record FixupsFit (at : DataAt) (fixups : Fixups) : Type 0 where

@@ -27,8 +27,7 @@ impl Bounds {
         let cells = (got + 15) / 16 * 16;
         at % 8 == 0
             && at + 8 <= len as u64
-            && (place + 8 <= got
-                || (cells <= place && place + 8 <= cells + u64::from(self.cells)))
+            && (place + 8 <= got || (cells <= place && place + 8 <= cells + u64::from(self.cells)))
     }
 
     #[tactic(auto, unfolding(crate::specs::Chain::ordinal_fits))]

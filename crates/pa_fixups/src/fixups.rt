@@ -28,12 +28,7 @@ fn read_parts(alloc: Global, part: &[u8], at: DataAt) -> Result<Fixups, Fault<Im
     check_zeros(part, ImageRule::F2, names, names + 1)?;
     let starts = read_starts(alloc, part, STARTS, at.pages)?;
     let (imports, left) = read_names(alloc, part, entries, count, &part[names + 1..])?;
-    check(
-        part,
-        ImageRule::F1,
-        (part.len() - left) as u64,
-        left == 0,
-    )?;
+    check(part, ImageRule::F1, (part.len() - left) as u64, left == 0)?;
     Ok(Fixups { starts, imports })
 }
 
@@ -109,4 +104,83 @@ pub fn write_fixups(alloc: Global, fixups: &Fixups, at: DataAt) -> Result<Vec<u8
     put_zeros(&mut out, 1)?;
     put_names(&mut out, names)?;
     Ok(out)
+}
+
+#[cfg(test)]
+mod tests {
+    use super::{read_fixups, write_fixups};
+    use crate::tables::{DataAt, Fixups, Starts};
+    use pa_num::{Fault, ImageRule, Name, Names};
+    use std::test::Fail;
+
+    const AT: DataAt = DataAt {
+        segments: 4,
+        offset: 0x4000,
+        pages: 1,
+    };
+
+    const PART: [u8; 88] = [
+        0, 0, 0, 0, 32, 0, 0, 0, 80, 0, 0, 0, 84, 0, 0, 0, 1, 0, 0, 0, 1, 0, 0, 0, 0, 0, 0, 0, 0,
+        0, 0, 0, 4, 0, 0, 0, 0, 0, 0, 0, 0, 0, 0, 0, 24, 0, 0, 0, 0, 0, 0, 0, 0, 0, 0, 0, 24, 0, 0,
+        0, 0, 0x40, 1, 0, 0, 0x40, 0, 0, 0, 0, 0, 0, 0, 0, 0, 0, 1, 0, 8, 0, 1, 2, 0, 0, 0, b'_',
+        b'a', 0,
+    ];
+
+    #[test]
+    fn spells_one_page_and_one_import(rt: HostRuntime) -> Result<(), Fail> {
+        let Ok(read) = read_fixups(rt.alloc(), &PART, AT) else {
+            return Err(Fail::from("fixups"));
+        };
+        assert_eq!(rt; read.starts.as_slice(), [8].as_slice());
+        assert_eq!(rt; read.imports.len(), 1);
+        for name in read.imports.as_slice() {
+            assert_eq!(rt; name.as_slice(), b"_a".as_slice());
+        }
+        let starts = Starts::from_slice(rt.alloc(), &[8])?;
+        let mut imports = Names::new(rt.alloc());
+        imports.push(Name::from_slice(rt.alloc(), b"_a")?)?;
+        let fixups = Fixups { starts, imports };
+        let Ok(part) = write_fixups(rt.alloc(), &fixups, AT) else {
+            return Err(Fail::from("memory"));
+        };
+        assert_eq!(rt; part.as_slice(), PART.as_slice());
+        Ok(())
+    }
+
+    #[test]
+    fn tells_the_first_flaw(rt: HostRuntime) -> Result<(), Fail> {
+        // A byte that changes, and the flaw: version, count, gaps, the format of pointers, the library, where a name begins,
+        // the zero byte before the names, a name's end, and a byte behind it.
+        let flaws = [
+            (0, 1, ImageRule::F2, 0),
+            (16, 2, ImageRule::F2, 12),
+            (28, 1, ImageRule::F2, 28),
+            (52, 1, ImageRule::F2, 52),
+            (62, 12, ImageRule::F2, 62),
+            (80, 2, ImageRule::F2, 80),
+            (81, 4, ImageRule::F7, 80),
+            (84, 1, ImageRule::F2, 84),
+            (87, b'b', ImageRule::F7, 80),
+            (86, 0, ImageRule::F1, 87),
+        ];
+        for (at, byte, rule, place) in flaws {
+            let mut part = PART;
+            assert!(rt; at < 88);
+            part[at] = byte;
+            let Err(fault) = read_fixups(rt.alloc(), &part, AT) else {
+                return Err(Fail::from("a flaw"));
+            };
+            assert_eq!(rt; fault, Fault::Refused { rule, place }, "at {at}");
+        }
+        // A size, and the part that passes it.
+        for (len, place) in [(27, 0), (30, 32), (79, 32), (83, 80), (84, 84)] {
+            assert!(rt; len < 88);
+            let Err(fault) = read_fixups(rt.alloc(), &PART[..len], AT) else {
+                return Err(Fail::from("a flaw"));
+            };
+            let rule = ImageRule::F1;
+            assert_eq!(rt; fault, Fault::Refused { rule, place }, "at {len}");
+        }
+        Ok(())
+    }
 }

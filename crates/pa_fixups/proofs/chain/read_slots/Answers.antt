@@ -1,4 +1,3 @@
-use Rattle.std.proofs.Common.{sym, ap, ◌∙◌, arith}
 use Rattle.pa_layout.proofs.Facts.{refused_answers}
 use Rattle.pa_fixups.specs.Chain.{slots_flaw}
 use Rattle.pa_fixups.proofs.Walk.{walk_ends, pushed_on, pushed_done}
@@ -7,7 +6,7 @@ use Rattle.pa_fixups.proofs.chain.read_slots.Goals as goal
 pub returns-in_err-fix-clause-exact : goal.returns-in_err-fix-clause-exact
 returns-in_err-fix-clause-exact c =
     refused_answers c.from_residual.result c.in_err-fix.field-0.0 (slots_flaw c.args.bounds.now c.args.page.now c.args.first) c.from_residual.ensures.1
-        (walk_ends c.in_err-fix.field-0.0 c.args.bounds.now c.args.page.now c.args.first c.loop-fixes.at c.loop-fixes.fixes c.loop-fixes.invariant c.in_err-fix.ensures.exact)
+    (walk_ends c.in_err-fix.field-0.0 c.args.bounds.now c.args.page.now c.args.first c.loop-fixes.at c.loop-fixes.fixes c.loop-fixes.invariant c.in_err-fix.ensures.exact)
 
 pub returns-then-link-eq0-clause-value : goal.returns-then-link-eq0-clause-value
 returns-then-link-eq0-clause-value c =

@@ -1,4 +1,4 @@
-use Rattle.std.proofs.Common.{◌≡◌, ◌++◌, replicate}
+use Rattle.std.proofs.Common.{◌++◌, replicate}
 use Rattle.pa_fixups.proofs.Whole.{zeros_push}
 use Rattle.pa_fixups.proofs.fixups.put_zeros.Goals as goal
 

@@ -1,4 +1,4 @@
-use Rattle.std.proofs.Common.{◌≡◌, ◌++◌, ◌-◌, ◌∙◌, ap, sym, length, List, ℕ, replicate, arith}
+use Rattle.std.proofs.Common.{length, arith}
 use Rattle.pa_fixups.proofs.Whole.{count_small, parts_put}
 use Rattle.pa_fixups.proofs.fixups.write_fixups.Goals as goal
 
@@ -17,4 +17,4 @@ returns c =
     let entries = rw c.as_slice-names.ensures at c.in_ok-put_entries.ensures in
     let names = rw c.as_slice-names.ensures at c.in_ok-put_names.ensures in
     parts_put a f c.new-out.result.items c.put_fields.new.out.items c.put_fields-2.new.out.items c.put_fields-3.new.out.items c.put_starts.new.out.items c.put_zeros.new.out.items c.put_entries.new.out.items c.put_zeros-2.new.out.items c.put_names.new.out.items
-        c.requires c.new-out.ensures.items header segments pages starts padding entries c.in_ok-put_zeros-2.ensures names
+    c.requires c.new-out.ensures.items header segments pages starts padding entries c.in_ok-put_zeros-2.ensures names
