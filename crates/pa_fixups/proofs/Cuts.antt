@@ -1,12 +1,12 @@
 -- Starts, entries and names, one after the other.
-use Rattle.std.proofs.Common.{◌≡◌, ℕ, zero, suc, ◌+◌, ◌-◌, ◌*◌, ◌/◌, ◌%◌, ◌≤◌, ◌<◌, ◌^◌, Bool, true, false, cond, ltb, eqb, ◌&&◌, List, [], ◌∷◌, ◌++◌, length, take, drop, Option, Some, None, refl, sym, ap, subst, ◌∙◌, arith, append_assoc}
+use Rattle.std.proofs.Common.{◌≡◌, ℕ, suc, ◌+◌, ◌-◌, ◌*◌, ◌/◌, ◌%◌, ◌≤◌, ◌<◌, ◌^◌, eqb, ◌&&◌, List, [], ◌∷◌, ◌++◌, length, take, drop, Option, None, refl, sym, ap, subst, ◌∙◌, arith, append_assoc}
 use Rattle.std.specs.List.{before_first, after_first}
 use Rattle.std.proofs.lemmas.Bool.{ltb-true, and_parts}
 use Rattle.std.proofs.lemmas.List.{append-nil, length-drop, take_all}
 use Rattle.pa_num.specs.declared.fault.ImageRule.TheVariants.{F2, F7}
 use Rattle.pa_layout.specs.declared.checks.Flaw.{Flaw}
 use Rattle.pa_layout.specs.Fields.{number, numbers}
-use Rattle.pa_layout.specs.Flaws.{Check, Holds, flaw_of, first, ◌then◌}
+use Rattle.pa_layout.specs.Flaws.{Holds, flaw_of, first}
 use Rattle.pa_layout.specs.Names.{is_zero, name_length, has_end, cut, behind}
 use Rattle.pa_layout.proofs.Facts.{holds_true}
 use Rattle.pa_fixups.specs.Fixups.{entry_checks, name_checks}

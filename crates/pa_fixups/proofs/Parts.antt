@@ -1,7 +1,7 @@
 -- What is known of a part once its checks have passed.
-use Rattle.std.proofs.Common.{◌≡◌, ℕ, zero, suc, min, ◌+◌, ◌-◌, ◌*◌, ◌≤◌, ◌<◌, eqb, take, drop, refl, sym, ap, ◌∙◌, Bool, true, false, leb, ltb, List, [], ◌∷◌, length, Option, Some, None, arith}
+use Rattle.std.proofs.Common.{◌≡◌, ℕ, zero, suc, ◌+◌, ◌-◌, ◌≤◌, ◌<◌, eqb, take, drop, refl, ap, ◌∙◌, List, length, None, arith}
 use Rattle.std.specs.List.{after_first}
-use Rattle.std.proofs.lemmas.List.{length-take, length-drop, take_all}
+use Rattle.std.proofs.lemmas.List.{length-take, length-drop}
 use Rattle.std.proofs.lemmas.Bool.{leb-true, ltb-true}
 use Rattle.pa_num.specs.declared.fault.ImageRule.TheVariants.{F1, F2}
 use Rattle.pa_layout.specs.Flaws.{Zeros, Holds, first, flaw_of}

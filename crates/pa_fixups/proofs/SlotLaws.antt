@@ -1,7 +1,7 @@
 -- What is written into a slot is read from it, and what is read was written.
-use Rattle.std.proofs.Common.{◌≡◌, ℕ, zero, suc, ◌+◌, ◌-◌, ◌*◌, ◌/◌, ◌≤◌, ◌<◌, ◌^◌, ◌%◌, Bool, true, false, cond, leb, ltb, eqb, ◌&&◌, not, List, [], ◌∷◌, Result, Ok, Err, refl, sym, ap, subst, ◌∙◌, arith, inl, inr}
+use Rattle.std.proofs.Common.{◌≡◌, ℕ, zero, suc, ◌+◌, ◌-◌, ◌*◌, ◌≤◌, ◌<◌, ◌^◌, Bool, true, false, cond, ltb, eqb, ◌&&◌, not, Ok, Err, refl, sym, ap, ◌∙◌, arith, inl, inr}
 use Rattle.std.specs.Prelude.{ℤ, pos, negsuc, ◌≤ℤ◌, ◌<ℤ◌, ◌-ℤ◌, IfOk}
-use Rattle.std.proofs.lemmas.Bool.{leb-true, le-leb, eqb-true, eq-eqb, and_parts, cases_lt, lt-ltb, le-ltb, not-false, not-true}
+use Rattle.std.proofs.lemmas.Bool.{eqb-true, cases_lt, lt-ltb, le-ltb, not-false, not-true}
 use Rattle.std.proofs.lemmas.Int.{ints}
 use Rattle.pa_num.specs.declared.fault.ImageRule.{ImageRule}
 use Rattle.pa_num.specs.declared.fault.ImageRule.TheVariants.{F3}
@@ -12,7 +12,7 @@ use Rattle.pa_pac.specs.Key.{key_number}
 use Rattle.pa_fixups.specs.declared.kind.Sig.{Sig}
 use Rattle.pa_fixups.specs.declared.kind.FixKind.{FixKind}
 use Rattle.pa_fixups.specs.declared.kind.FixKind.TheVariants.{Rebase, Bind, AuthRebase, AuthBind}
-use Rattle.pa_fixups.specs.Slots.{bit, low_bits, signed_bits, parts_of, packed, SigFits, FieldsFit, key_of, sig_at, is_bind, is_auth, kind_in, kind_of, next_of, zeros_hold, slot_of, IsWordOf}
+use Rattle.pa_fixups.specs.Slots.{bit, low_bits, signed_bits, parts_of, packed, FieldsFit, key_of, sig_at, is_bind, is_auth, kind_in, kind_of, next_of, zeros_hold, slot_of, IsWordOf}
 
 -- ---- the fields of the four words
 

@@ -1,20 +1,19 @@
 -- A chain that is written is read, and one that is read was written so.
-use Rattle.std.proofs.Common.{◌≡◌, ℕ, zero, suc, ◌+◌, ◌-◌, ◌*◌, ◌/◌, ◌≤◌, ◌<◌, ◌^◌, ◌%◌, Bool, true, false, cond, leb, ltb, eqb, ◌&&◌, ◌||◌, not, List, [], ◌∷◌, ◌++◌, length, Option, Some, None, Result, Ok, Err, refl, sym, ap, subst, ◌∙◌, arith, inl, inr, map, get_or, drop}
+use Rattle.std.proofs.Common.{◌≡◌, ℕ, zero, suc, ◌+◌, ◌-◌, ◌*◌, ◌/◌, ◌≤◌, ◌<◌, ◌^◌, ◌%◌, Bool, true, false, cond, eqb, ◌||◌, not, List, [], ◌∷◌, length, None, Result, Ok, Err, refl, sym, ap, subst, ◌∙◌, arith, map}
 use Rattle.std.specs.Prelude.{IfOk}
 use Rattle.std.proofs.lemmas.Bool.{eqb-true, eqb-false, eq-eqb, ne_eqb, and_parts}
 use Rattle.pa_num.specs.declared.fault.ImageRule.{ImageRule}
 use Rattle.pa_num.specs.declared.fault.ImageRule.TheVariants.{F3, F4, F5, F6}
 use Rattle.pa_num.specs.declared.fault.Fault.{Fault}
 use Rattle.pa_num.specs.declared.fault.Fault.TheVariants.{Refused, Memory}
-use Rattle.pa_layout.specs.declared.checks.Flaw.{Flaw}
-use Rattle.pa_layout.specs.Flaws.{Check, Holds, flaw_of, first, flaw_at, AnswersOrMemory, GivesOrMemory, ◌then◌}
+use Rattle.pa_layout.specs.Flaws.{Holds, flaw_of, first, AnswersOrMemory, GivesOrMemory}
 use Rattle.pa_layout.proofs.Laws.{IsBytes, number-lt}
 use Rattle.pa_layout.proofs.Facts.{then_none, each_none, holds_true}
 use Rattle.pa_fixups.specs.declared.kind.FixKind.{FixKind}
 use Rattle.pa_fixups.specs.declared.kind.Fix.{Fix}
 use Rattle.pa_fixups.specs.declared.bounds.Bounds.{Bounds}
-use Rattle.pa_fixups.specs.Slots.{kind_of, next_of, zeros_hold, slot_of, packed, parts_of, FieldsFit}
-use Rattle.pa_fixups.specs.Chain.{may_stand, links_on, ordinal_fits, target_fits, word_at, link_at, fix_at, places, chain_places, slot_checks, first_at, slots_flaw, chain_flaw, no_place, link_to, word_of, Linked, FixFits, AllFit, Rising, IsChain}
+use Rattle.pa_fixups.specs.Slots.{kind_of, zeros_hold, slot_of, packed, parts_of, FieldsFit}
+use Rattle.pa_fixups.specs.Chain.{may_stand, links_on, ordinal_fits, target_fits, word_at, link_at, fix_at, places, chain_places, slot_checks, first_at, slots_flaw, Linked, FixFits, AllFit, Rising, IsChain}
 use Rattle.pa_fixups.proofs.SlotLaws.{slot_of-packed, IsWordOf-kind_of}
 use Rattle.pa_fixups.proofs.Walk.{slot_ok, stands_inside, ends_at, goes_on, fixes_from}
 

@@ -1,18 +1,16 @@
 -- The slots of a chain, one after the other.
-use Rattle.std.proofs.Common.{◌≡◌, ℕ, zero, suc, ◌+◌, ◌-◌, ◌*◌, ◌/◌, ◌≤◌, ◌<◌, ◌^◌, ◌%◌, Bool, true, false, cond, leb, ltb, eqb, ◌&&◌, ◌||◌, not, List, [], ◌∷◌, ◌++◌, length, Option, Some, None, Result, Ok, Err, refl, sym, ap, subst, ◌∙◌, arith, inl, inr, map, append_assoc}
-use Rattle.std.proofs.lemmas.Bool.{leb-true, eqb-true, eqb-false, eq-eqb, ne_eqb, and_parts}
+use Rattle.std.proofs.Common.{◌≡◌, ℕ, zero, suc, ◌+◌, ◌-◌, ◌*◌, ◌≤◌, Bool, true, false, cond, eqb, ◌||◌, not, List, [], ◌∷◌, ◌++◌, length, Some, None, Ok, Err, refl, sym, ap, subst, ◌∙◌, arith, map, append_assoc}
+use Rattle.std.proofs.lemmas.Bool.{leb-true, eqb-false, eq-eqb, ne_eqb, and_parts}
 use Rattle.pa_num.specs.declared.fault.ImageRule.{ImageRule}
-use Rattle.pa_num.specs.declared.fault.ImageRule.TheVariants.{F3, F4, F5, F6}
-use Rattle.pa_num.specs.declared.fault.Fault.{Fault}
-use Rattle.pa_num.specs.declared.fault.Fault.TheVariants.{Refused, Memory}
+use Rattle.pa_num.specs.declared.fault.ImageRule.TheVariants.{F3, F4}
 use Rattle.pa_layout.specs.declared.checks.Flaw.{Flaw}
-use Rattle.pa_layout.specs.Flaws.{Check, Holds, flaw_of, first, flaw_at, Answers, AnswersOrMemory, ◌then◌}
-use Rattle.pa_layout.proofs.Facts.{then_none, each_none, holds_true}
+use Rattle.pa_layout.specs.Flaws.{Holds, flaw_of, first, flaw_at}
+use Rattle.pa_layout.proofs.Facts.{each_none, holds_true}
 use Rattle.pa_fixups.specs.declared.kind.FixKind.{FixKind}
 use Rattle.pa_fixups.specs.declared.kind.Fix.{Fix}
 use Rattle.pa_fixups.specs.declared.bounds.Bounds.{Bounds}
 use Rattle.pa_fixups.specs.Slots.{kind_of, next_of, zeros_hold, slot_of}
-use Rattle.pa_fixups.specs.Chain.{may_stand, links_on, word_at, link_at, fix_at, places, chain_places, slot_checks, first_at, slots_flaw, chain_flaw}
+use Rattle.pa_fixups.specs.Chain.{may_stand, links_on, link_at, fix_at, places, chain_places, slot_checks, first_at, slots_flaw}
 
 -- ---- one slot
 

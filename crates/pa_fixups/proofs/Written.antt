@@ -1,18 +1,17 @@
 -- What a page holds once its slots are written, and once they are erased.
-use Rattle.std.proofs.Common.{◌≡◌, ℕ, zero, suc, ◌+◌, ◌-◌, ◌*◌, ◌/◌, ◌≤◌, ◌<◌, ◌^◌, ◌%◌, Bool, true, false, List, [], ◌∷◌, ◌++◌, length, take, drop, get_or, replicate, refl, sym, ap, subst, ◌∙◌, arith, append_assoc}
-use Rattle.std.proofs.lemmas.List.{take_at, drop_at, length-append, length-take, length-drop, drop-drop, length-take-le, take-append-drop, drop-append-le, take-append-le}
+use Rattle.std.proofs.Common.{◌≡◌, ℕ, ◌+◌, ◌-◌, ◌≤◌, ◌<◌, ◌^◌, List, [], ◌∷◌, ◌++◌, length, take, drop, replicate, refl, sym, ap, subst, ◌∙◌, arith, append_assoc}
+use Rattle.std.proofs.lemmas.List.{take_at, drop_at, length-append, length-drop, length-take-le, take-append-drop, drop-append-le}
 use Rattle.std.proofs.lemmas.Int.{ints}
 use Rattle.std.specs.Prelude.{ℤ, pos, negsuc, ◌<ℤ◌}
 use Rattle.byteorder.specs.Endian.{little_bytes, little_number}
 use Rattle.byteorder.specs.Numbers.{little_number-reads_back, little_from-append, length-bytes_low_first}
-use Rattle.pa_pac.specs.Key.{key_number}
 use Rattle.pa_layout.specs.Fields.{number, IsAt}
 use Rattle.pa_layout.proofs.Laws.{IsBytes, number-spelled}
 use Rattle.pa_fixups.specs.declared.kind.FixKind.{FixKind}
 use Rattle.pa_fixups.specs.declared.kind.FixKind.TheVariants.{Rebase, Bind, AuthRebase, AuthBind}
 use Rattle.pa_fixups.specs.declared.kind.Fix.{Fix}
-use Rattle.pa_fixups.specs.Slots.{packed, parts_of, FieldsFit, bit, low_bits}
-use Rattle.pa_fixups.specs.Chain.{word_at, link_to, word_of, Linked, Rising, CanStand, AreWritable, put_at, with_slots, without_slots}
+use Rattle.pa_fixups.specs.Slots.{packed, parts_of, FieldsFit, low_bits}
+use Rattle.pa_fixups.specs.Chain.{word_at, link_to, word_of, Linked, AreWritable, put_at, with_slots, without_slots}
 use Rattle.pa_fixups.proofs.SlotLaws.{bit-lt}
 
 pub link_small : (fix : Fix) (fixes : List Fix) (len : ℕ) → len ≤ 0x4000 → AreWritable len (fix ∷ fixes) → link_to fix fixes < 2 ^ 11

@@ -1,5 +1,5 @@
 -- The slots of a page along their links (mach-o/fixup-chains.h: dyld_chained_starts_in_segment).
-use Rattle.std.specs.Prelude.{◌≡◌, ℕ, zero, suc, ◌+◌, ◌-◌, ◌*◌, ◌/◌, ◌%◌, ◌<◌, ◌≤◌, ◌++◌, take, drop, Bool, true, false, ◌&&◌, ◌||◌, not, ◌==◌, nat_le, nat_lt, if◌then◌else◌, List, [], ◌∷◌, length, map, replicate, Option, Some, None}
+use Rattle.std.specs.Prelude.{◌≡◌, ℕ, zero, suc, ◌+◌, ◌-◌, ◌*◌, ◌/◌, ◌%◌, ◌<◌, ◌≤◌, ◌++◌, take, drop, Bool, true, ◌&&◌, ◌||◌, not, ◌==◌, nat_le, nat_lt, if◌then◌else◌, List, [], ◌∷◌, length, replicate, Option, Some, None}
 use Rattle.byteorder.specs.Endian.{little_bytes}
 use Rattle.pa_num.specs.declared.fault.ImageRule.TheVariants.{F3, F4, F5, F6}
 use Rattle.pa_layout.specs.declared.checks.Flaw.{Flaw}

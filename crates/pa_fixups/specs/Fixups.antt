@@ -1,6 +1,6 @@
 -- The fixups of an image: a header, the starts of the pages' chains, the imports and their names (mach-o/fixup-chains.h:
 -- dyld_chained_fixups_header, .._starts_in_image, .._starts_in_segment, .._import).
-use Rattle.std.specs.Prelude.{◌≡◌, ℕ, zero, suc, ◌+◌, ◌-◌, ◌*◌, ◌/◌, ◌%◌, ◌^◌, Bool, true, ◌&&◌, ◌==◌, nat_le, nat_lt, if◌then◌else◌, min, List, [], ◌∷◌, ◌++◌, length, drop, map, replicate, Option}
+use Rattle.std.specs.Prelude.{◌≡◌, ℕ, zero, suc, ◌+◌, ◌-◌, ◌*◌, ◌/◌, ◌%◌, ◌^◌, true, ◌&&◌, ◌==◌, nat_le, nat_lt, if◌then◌else◌, min, List, [], ◌∷◌, length, drop, map, replicate, Option}
 use Rattle.std.specs.List.{concat, after_first}
 use Rattle.pa_num.specs.declared.fault.ImageRule.TheVariants.{H3, F1, F2, F7}
 use Rattle.pa_layout.specs.declared.checks.Flaw.{Flaw}
@@ -73,6 +73,11 @@ pub record FixupsFit (at : DataAt) (fixups : Fixups) : Type 0 where
   pub starts : AllFit (map two fixups.starts)
   pub imports : AllFit (entries 1 fixups.imports)
   pub names : are_names fixups.imports ≡ true
+
+-- the part of an image that holds just these fixups
+pub record IsPart (at : DataAt) (fixups : Fixups) (part : List ℕ) : Type 0 where
+  pub bytes_are : part ≡ fixups_bytes at fixups
+  pub fit : FixupsFit at fixups
 
 -- ---- reading
 

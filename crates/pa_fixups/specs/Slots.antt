@@ -1,6 +1,6 @@
 -- The words of slots in pointer format 1 (mach-o/fixup-chains.h: dyld_chained_ptr_arm64e_rebase, .._bind, .._auth_rebase
 -- and .._auth_bind).
-use Rattle.std.specs.Prelude.{◌≡◌, ℕ, ◌+◌, ◌-◌, ◌*◌, ◌^◌, ◌<◌, ◌/◌, ◌%◌, Bool, true, false, not, ◌&&◌, ◌==◌, nat_lt, if◌then◌else◌, List, [], ◌∷◌, ℤ, pos, negsuc, ◌≤ℤ◌, ◌<ℤ◌, ◌-ℤ◌, Result, Ok, Err}
+use Rattle.std.specs.Prelude.{◌≡◌, ℕ, ◌+◌, ◌-◌, ◌*◌, ◌^◌, ◌<◌, Bool, true, false, not, ◌&&◌, ◌==◌, nat_lt, if◌then◌else◌, List, [], ◌∷◌, ℤ, pos, negsuc, ◌≤ℤ◌, ◌<ℤ◌, ◌-ℤ◌, Result, Ok, Err}
 use Rattle.pa_num.specs.declared.fault.ImageRule.{ImageRule}
 use Rattle.pa_num.specs.declared.fault.ImageRule.TheVariants.{F3}
 use Rattle.pa_num.specs.Bits.{field}

@@ -1,13 +1,17 @@
-ghost use Rattle.std.specs.Prelude.{◌≡◌, IfOk};
+ghost use Rattle.std.specs.Prelude.{◌≡◌, ◌++◌, map, replicate, IfOk, OnOk};
+ghost use Rattle.pa_layout.specs.Fields.{AllFit, spelled, two};
+ghost use Rattle.pa_layout.specs.Names.{ended};
 ghost use Rattle.pa_layout.specs.Flaws.{AnswersOrMemory, GivesOrMemory};
 ghost use Rattle.pa_fixups.specs.declared.tables.Fixups.{Fixups};
-ghost use Rattle.pa_fixups.specs.Fixups.{FixupsFit, fixups_bytes, fixups_flaw, taken};
+ghost use Rattle.pa_fixups.specs.Fixups.{FixupsFit, IsPart, entries, fixups_flaw, taken};
 
 use crate::imports::{check_entries, read_names, read_starts};
-use crate::tables::{DataAt, Fixups, STARTS, check_starts, check_tables};
-use pa_layout::{check, check_zeros, number_of_four};
-use pa_num::{Fault, ImageRule};
-use std::alloc::Global;
+use crate::tables::{
+    DataAt, Fixups, STARTS, check_starts, check_tables, header_fields, page_fields, segment_fields,
+};
+use pa_layout::{FileField, check, check_zeros, number_of_four, put_fields};
+use pa_num::{Fault, ImageRule, Memory, Name};
+use std::alloc::{AllocError, Global};
 
 /// The starts and the imports of a part, or the first flaw.
 #[tactic(auto, using(crate::proofs::Parts::starts_room, crate::proofs::Parts::tables_room), unfolding(crate::specs::Fixups::fixups_flaw))]
@@ -26,4 +30,157 @@ fn read_parts(alloc: Global, part: &[u8], at: DataAt) -> Result<Fixups, Fault<Im
     let (imports, left) = read_names(alloc, part, entries, count, &part[names + 1..])?;
     check(part, ImageRule::F1, (part.len() - left) as u64, left == 0)?;
     Ok(Fixups { starts, imports })
+}
+
+/// The fixups that a part of an image holds, or its first flaw with its place in the part. What pads the starts is H3, as
+/// where the image's bytes that have to be zero are checked.
+pub fn read_fixups(alloc: Global, part: &[u8], at: DataAt) -> Result<Fixups, Fault<ImageRule>>
+    // What is read is what the part holds, and what a part holds is read.
+    ensures found { IfOk result (λ fixups. IsPart at fixups part.now) }
+    ensures only { (fixups : Fixups) → IsPart at fixups part.now → GivesOrMemory fixups result }
+    ensures flaw { AnswersOrMemory result (fixups_flaw at part.now) }
+{
+    read_parts(alloc, part, at)
+}
+
+/// Appends the starts.
+fn put_starts(out: &mut Vec<u8>, starts: &[u16]) -> Result<(), AllocError>
+    requires { AllFit (map two starts.now) }
+    ensures { OnOk result (out.new.items ≡ out.old.items ++ spelled (map two starts.now)) }
+{
+    for start in starts {
+        put_fields(out, &[FileField::two(*start as u128)])?;
+    }
+    Ok(())
+}
+
+/// Appends `count` zeros.
+fn put_zeros(out: &mut Vec<u8>, count: usize) -> Result<(), AllocError>
+    ensures { OnOk result (out.new.items ≡ out.old.items ++ replicate count 0) }
+{
+    for _ in 0..count {
+        out.push(0)?;
+    }
+    Ok(())
+}
+
+/// Appends the entries of imports whose names begin behind one zero byte.
+fn put_entries(out: &mut Vec<u8>, names: &[Name]) -> Result<(), AllocError>
+    requires { AllFit (entries 1 names.now) }
+    ensures { OnOk result (out.new.items ≡ out.old.items ++ spelled (entries 1 names.now)) }
+{
+    let mut place: u128 = 1;
+    for name in names {
+        put_fields(out, &[FileField::four(1 + 512 * place)])?;
+        place += name.len() as u128 + 1;
+    }
+    Ok(())
+}
+
+/// Appends each name with a zero byte behind it.
+fn put_names(out: &mut Vec<u8>, names: &[Name]) -> Result<(), AllocError>
+    ensures { OnOk result (out.new.items ≡ out.old.items ++ ended names.now) }
+{
+    for name in names {
+        out.extend_from_slice(name.as_slice())?;
+        out.push(0)?;
+    }
+    Ok(())
+}
+
+/// The part of an image that holds the fixups.
+pub fn write_fixups(alloc: Global, fixups: &Fixups, at: DataAt) -> Result<Vec<u8>, Memory>
+    requires { FixupsFit at fixups.now }
+    ensures { IfOk result (λ part. IsPart at fixups.now part.items) }
+{
+    let names = fixups.imports.as_slice();
+    let mut out = Vec::new(alloc);
+    put_fields(&mut out, &header_fields(at, names.len() as u32))?;
+    put_fields(&mut out, &segment_fields(at))?;
+    put_fields(&mut out, &page_fields(at))?;
+    put_starts(&mut out, fixups.starts.as_slice())?;
+    put_zeros(&mut out, at.imports() - at.starts_end())?;
+    put_entries(&mut out, names)?;
+    put_zeros(&mut out, 1)?;
+    put_names(&mut out, names)?;
+    Ok(out)
+}
+
+#[cfg(test)]
+mod tests {
+    use super::{read_fixups, write_fixups};
+    use crate::tables::{DataAt, Fixups, Starts};
+    use pa_num::{Fault, ImageRule, Name, Names};
+    use std::test::Fail;
+
+    const AT: DataAt = DataAt {
+        segments: 4,
+        offset: 0x4000,
+        pages: 1,
+    };
+
+    const PART: [u8; 88] = [
+        0, 0, 0, 0, 32, 0, 0, 0, 80, 0, 0, 0, 84, 0, 0, 0, 1, 0, 0, 0, 1, 0, 0, 0, 0, 0, 0, 0, 0,
+        0, 0, 0, 4, 0, 0, 0, 0, 0, 0, 0, 0, 0, 0, 0, 24, 0, 0, 0, 0, 0, 0, 0, 0, 0, 0, 0, 24, 0, 0,
+        0, 0, 0x40, 1, 0, 0, 0x40, 0, 0, 0, 0, 0, 0, 0, 0, 0, 0, 1, 0, 8, 0, 1, 2, 0, 0, 0, b'_',
+        b'a', 0,
+    ];
+
+    #[test]
+    fn spells_one_page_and_one_import(rt: HostRuntime) -> Result<(), Fail> {
+        let Ok(read) = read_fixups(rt.alloc(), &PART, AT) else {
+            return Err(Fail::from("fixups"));
+        };
+        assert_eq!(rt; read.starts.as_slice(), [8].as_slice());
+        assert_eq!(rt; read.imports.len(), 1);
+        for name in read.imports.as_slice() {
+            assert_eq!(rt; name.as_slice(), b"_a".as_slice());
+        }
+        let starts = Starts::from_slice(rt.alloc(), &[8])?;
+        let mut imports = Names::new(rt.alloc());
+        imports.push(Name::from_slice(rt.alloc(), b"_a")?)?;
+        let fixups = Fixups { starts, imports };
+        let Ok(part) = write_fixups(rt.alloc(), &fixups, AT) else {
+            return Err(Fail::from("memory"));
+        };
+        assert_eq!(rt; part.as_slice(), PART.as_slice());
+        Ok(())
+    }
+
+    #[test]
+    fn tells_the_first_flaw(rt: HostRuntime) -> Result<(), Fail> {
+        // A byte that changes, and the flaw: version, count, gaps, the format of pointers, the library, where a name begins,
+        // the zero byte before the names, a name's end, and a byte behind it.
+        let flaws = [
+            (0, 1, ImageRule::F2, 0),
+            (16, 2, ImageRule::F2, 12),
+            (28, 1, ImageRule::F2, 28),
+            (52, 1, ImageRule::F2, 52),
+            (62, 12, ImageRule::F2, 62),
+            (80, 2, ImageRule::F2, 80),
+            (81, 4, ImageRule::F7, 80),
+            (84, 1, ImageRule::F2, 84),
+            (87, b'b', ImageRule::F7, 80),
+            (86, 0, ImageRule::F1, 87),
+        ];
+        for (at, byte, rule, place) in flaws {
+            let mut part = PART;
+            assert!(rt; at < 88);
+            part[at] = byte;
+            let Err(fault) = read_fixups(rt.alloc(), &part, AT) else {
+                return Err(Fail::from("a flaw"));
+            };
+            assert_eq!(rt; fault, Fault::Refused { rule, place }, "at {at}");
+        }
+        // A size, and the part that passes it.
+        for (len, place) in [(27, 0), (30, 32), (79, 32), (83, 80), (84, 84)] {
+            assert!(rt; len < 88);
+            let Err(fault) = read_fixups(rt.alloc(), &PART[..len], AT) else {
+                return Err(Fail::from("a flaw"));
+            };
+            let rule = ImageRule::F1;
+            assert_eq!(rt; fault, Fault::Refused { rule, place }, "at {len}");
+        }
+        Ok(())
+    }
 }

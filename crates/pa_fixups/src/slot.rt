@@ -145,3 +145,63 @@ pub fn read_slot(word: u64) -> Result<(FixKind, u16), ImageRule>
     let next = Field::<51, 11>::get(word) as u16;
     forms!(read(word, is_bind, is_auth, next))
 }
+
+#[cfg(test)]
+mod tests {
+    use super::{read_slot, write_slot};
+    use crate::kind::{FixKind, Sig};
+    use pa_num::ImageRule;
+    use pa_pac::Key;
+
+    #[test]
+    fn spells_the_four_kinds(rt: HostRuntime) {
+        let sig = Sig {
+            key: Key::IA,
+            addr: true,
+            disc: 0x1234,
+        };
+        let plain = Sig { disc: 0, ..sig };
+        let rebase = FixKind::Rebase {
+            target: 0x1_0000_8020,
+            high8: 0,
+        };
+        let bind = FixKind::Bind {
+            ordinal: 1,
+            addend: 5,
+        };
+        let auth_rebase = FixKind::AuthRebase { target: 0x598, sig };
+        let auth_bind = FixKind::AuthBind {
+            ordinal: 3,
+            sig: plain,
+        };
+        let words = [
+            (rebase, 2, 0x0010_0001_0000_8020),
+            (bind, 0, 0x4000_0005_0000_0001),
+            (auth_rebase, 1, 0x8009_1234_0000_0598),
+            (auth_bind, 0, 0xC001_0000_0000_0003),
+        ];
+        for (kind, next, word) in words {
+            assert_eq!(rt; read_slot(word), Ok((kind, next)), "at {word:x}");
+        }
+        assert_eq!(rt; write_slot(rebase, 2), 0x0010_0001_0000_8020);
+        assert_eq!(rt; write_slot(bind, 0), 0x4000_0005_0000_0001);
+        assert_eq!(rt; write_slot(auth_rebase, 1), 0x8009_1234_0000_0598);
+        assert_eq!(rt; write_slot(auth_bind, 0), 0xC001_0000_0000_0003);
+    }
+
+    #[test]
+    fn takes_no_set_zero_bit(rt: HostRuntime) {
+        assert_eq!(rt; read_slot(0xC001_0000_0001_0003), Err(ImageRule::F3));
+        assert_eq!(rt; read_slot(0x4000_0005_8000_0001), Err(ImageRule::F3));
+    }
+
+    #[test]
+    fn reads_a_negative_addend(rt: HostRuntime) {
+        let kind = FixKind::Bind {
+            ordinal: 1,
+            addend: -1,
+        };
+        assert_eq!(rt; read_slot(0x4007_FFFF_0000_0001), Ok((kind, 0)));
+        assert_eq!(rt; write_slot(kind, 0), 0x4007_FFFF_0000_0001);
+    }
+}

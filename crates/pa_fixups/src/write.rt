@@ -63,3 +63,6 @@ pub fn erase_slots(page: &mut [u8], fixes: &[Fix])
         rest = behind;
     }
 }
+
+#[cfg(test)]
+mod tests;

@@ -56,6 +56,18 @@ IsAt-itself bytes =
     let none : drop (0 + length bytes) bytes ≡ [] = nil_from_length _ (omega (arith, length-drop (0 + length bytes) bytes)) in
     record { inside = omega arith; reads = sym (append-nil bytes) ∙ ap (λ (r : List ℕ). bytes ++ r) (sym none) }
 
+-- what is left of the bytes stands there
+pub IsAt-rest : (bytes : List ℕ) (at : ℕ) → at ≤ length bytes → IsAt bytes at (drop at bytes)
+IsAt-rest bytes at le =
+    let none : drop (at + length (drop at bytes)) bytes ≡ [] = nil_from_length _ (omega (arith, length-drop at bytes, length-drop (at + length (drop at bytes)) bytes)) in
+    record { inside = omega (arith, length-drop at bytes); reads = sym (append-nil (drop at bytes)) ∙ ap (λ (r : List ℕ). drop at bytes ++ r) (sym none) }
+
+-- what stands up to the end is what is left of the bytes
+pub IsAt-end : (bytes : List ℕ) (at : ℕ) (part : List ℕ) → IsAt bytes at part → at + length part ≡ length bytes → drop at bytes ≡ part
+IsAt-end bytes at part p e =
+    let none : drop (at + length part) bytes ≡ [] = nil_from_length _ (omega (arith, length-drop (at + length part) bytes)) in
+    p.reads ∙ ap (λ (r : List ℕ). part ++ r) none ∙ append-nil part
+
 -- what stands in a part stands in the bytes
 pub IsAt-within : (bytes part inner : List ℕ) (at place : ℕ) → IsAt bytes at part → IsAt part place inner → IsAt bytes (at + place) inner
 IsAt-within bytes part inner at place p q =
@@ -250,6 +262,14 @@ numbers-stand (suc count) at bytes le =
     let inside : leb (at + 2) (length bytes) ≡ true = le-leb _ _ (omega arith) in
     let same : eqb (number 2 at bytes) (number 2 at bytes) ≡ true = eq-eqb _ _ refl in
     rw (inside, same) (numbers-stand count (at + 2) bytes (omega arith))
+
+pub length-numbers : (count n at : ℕ) (bytes : List ℕ) → length (numbers count n at bytes) ≡ count
+length-numbers zero n at bytes = refl
+length-numbers (suc count) n at bytes = ap suc (length-numbers count n (at + n) bytes)
+
+pub size_of-twos : (row : List ℕ) → size_of (map two row) ≡ 2 * length row
+size_of-twos [] = refl
+size_of-twos (x ∷ xs) = omega (arith, size_of-twos xs)
 
 pub numbers-again : (row : List ℕ) (at : ℕ) (bytes : List ℕ) → Values at (map two row) bytes → numbers (length row) 2 at bytes ≡ row
 numbers-again [] at bytes v = refl

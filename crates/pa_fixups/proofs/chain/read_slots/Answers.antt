@@ -1,4 +1,3 @@
-use Rattle.std.proofs.Common.{sym, ap, ◌∙◌, arith}
 use Rattle.pa_layout.proofs.Facts.{refused_answers}
 use Rattle.pa_fixups.specs.Chain.{slots_flaw}
 use Rattle.pa_fixups.proofs.Walk.{walk_ends, pushed_on, pushed_done}

@@ -1,4 +1,4 @@
-use Rattle.std.proofs.Common.{◌≡◌, ◌+◌, ◌-◌, ◌∙◌, sym, ap, arith, length, take, drop, refl}
+use Rattle.std.proofs.Common.{◌≡◌, ◌+◌, ◌-◌, ◌∙◌, arith, length, take, drop}
 use Rattle.std.proofs.lemmas.List.{take_all, length-drop}
 use Rattle.pa_layout.proofs.Facts.{refused_answers}
 use Rattle.pa_fixups.specs.Fixups.{fixups_flaw}

@@ -1,4 +1,3 @@
-use Rattle.std.proofs.Common.{sym, ◌∙◌}
 use Rattle.pa_layout.specs.Flaws.{first}
 use Rattle.pa_fixups.specs.Fixups.{entry_checks}
 use Rattle.pa_fixups.proofs.Cuts.{entries_on}

@@ -1,4 +1,3 @@
-use Rattle.std.proofs.Common.{arith}
 use Rattle.pa_fixups.proofs.Cuts.{read_on_at}
 use Rattle.pa_fixups.proofs.imports.read_names.Goals as goal
 

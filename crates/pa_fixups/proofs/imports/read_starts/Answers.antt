@@ -1,4 +1,3 @@
-use Rattle.std.proofs.Common.{◌≡◌, ◌+◌, ◌*◌, ap, sym, ◌∙◌, arith}
 use Rattle.pa_fixups.proofs.Cuts.{numbers_push}
 use Rattle.pa_fixups.proofs.imports.read_starts.Goals as goal
 

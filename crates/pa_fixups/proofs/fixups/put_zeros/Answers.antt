@@ -1,0 +1,7 @@
+use Rattle.std.proofs.Common.{◌++◌, replicate}
+use Rattle.pa_fixups.proofs.Whole.{zeros_push}
+use Rattle.pa_fixups.proofs.fixups.put_zeros.Goals as goal
+
+pub loop-preserved : goal.loop-preserved
+loop-preserved c =
+    rw c.in_ok-push.ensures.items (zeros_push c.args.count c.loop.counter c.loop.out.items (c.args.out.now.items ++ replicate c.args.count 0) c.loop-test.true c.loop.invariant)
