@@ -8,7 +8,7 @@ use Rattle.pa_object.specs.Machine.{Machine}
 use Rattle.pa_object.specs.Run.{run, end_of}
 use Rattle.pa_straight.specs.declared.source.Straight.{Straight}
 use Rattle.pa_straight.specs.Source.{IsTextOf, IsNoText}
-use Rattle.pa_straight.specs.Block.{begun}
+use Rattle.pa_straight.specs.Block.{begun, words_of}
 use Rattle.pa_straight.specs.Shows.{Runs}
 use Rattle.pa_engine.specs.Report.{report_text}
 use Rattle.pa_paclab.specs.declared.exit.Exit.{Exit}
@@ -93,13 +93,14 @@ run_of code block = run code [] 1000000 (begun block)
 abbrev pub report_of : Machine → List ℕ
 report_of m = report_text m.output (end_of m) m.log false
 
--- A text's report under a function for the code: the report of the run of a block of the text's program. Of that block each
+-- A text's report under a function for the code: the report of the run of the block of the text's program. Of that block each
 -- run, under every function, prints and returns what the program says, takes only what it signed, and enters the functions
 -- that the program calls.
 pub record IsReport (code : Code) (text report : List ℕ) : Type 0 where
   pub program : Straight
   pub accepts : Accepts text program
   pub block : List ℕ
+  pub words : block ≡ words_of program
   pub runs : Runs block program
   pub is : report ≡ report_of (run_of code block)
 
@@ -142,6 +143,7 @@ IsRefusalOf text answer = ⊥
 -- this is the output, the end and the log of the run of a block of the program
 pub record IsRunOf (code : Code) (program : Straight) (output : List ℕ) (end : End) (log : Log) : Type 0 where
   pub block : List ℕ
+  pub words : block ≡ words_of program
   pub runs : Runs block program
   pub output_is : output ≡ (run_of code block).output
   pub end_is : end ≡ end_of (run_of code block)
