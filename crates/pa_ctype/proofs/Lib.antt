@@ -1,0 +1,5 @@
+pub mod Growth
+pub mod Kept
+pub mod Laws
+pub mod Sound
+pub mod Views
