@@ -65,3 +65,9 @@ sound_set structs id members at h k other found e = elim (get_set structs id oth
   | inl old ↦ kept_extends (table_of structs) (table_of (slice_set structs id (Some members))) found (extends_set structs id members at) (h other found old)
   | inr same ↦ kept_extends (table_of structs) (table_of (slice_set structs id (Some members))) found (extends_set structs id members at) (subst (AreKept (table_of structs)) same k)
 ]
+
+-- one more member
+pub kept_push : (table : Table) (members : List Held) (held : Held) → AreKept table members → HasLayout table (type_tree held.of) held.layout → AreKept table (members ++ held ∷ [])
+unfolding AreKept
+kept_push table [] held k h = (h, tt)
+kept_push table (x ∷ members) held k h = (k.0, kept_push table members held k.1 h)

@@ -1,9 +1,11 @@
 -- How many bytes objects have, of which number their addresses are multiples, and where members lie (C11 6.2.8, 6.5.3.4,
 -- 6.7.2.1; where it leaves a choice, as the Procedure Call Standard for the Arm 64-bit Architecture).
-use Rattle.std.specs.Prelude.{◌≡◌, ℕ, zero, suc, ◌+◌, ◌*◌, ◌/◌, ◌≤◌, max, true, false, not, ◌||◌, ◌==◌, nat_le, if◌then◌else◌, List, [], ◌∷◌, Option, Some, None, option_and_then, slice_get}
+use Rattle.std.specs.Prelude.{◌≡◌, ℕ, zero, suc, ◌+◌, ◌*◌, ◌/◌, ◌≤◌, max, Bool, true, false, not, ◌||◌, ◌==◌, nat_le, if◌then◌else◌, List, [], ◌∷◌, ◌++◌, Result, Ok, Err, Option, Some, None, option_and_then, slice_get}
 use Rattle.std.specs.Int.{next_multiple_of}
 use Rattle.std.specs.List.{list_all}
 use Rattle.std.specs.Str.{bytes_eq}
+use Rattle.pa_num.specs.declared.fault.Memory.{Memory}
+use Rattle.pa_ctype.specs.declared.ctype.CType.{CType}
 use Rattle.pa_ctype.specs.declared.ctype.Layout.{Layout}
 use Rattle.pa_ctype.specs.declared.ctype.Held.{Held}
 use Rattle.pa_ctype.specs.declared.ctype.Member.{Member}
@@ -144,7 +146,13 @@ AreKept table (held ∷ more) = HasLayout table (type_tree held.of) held.layout 
 abbrev pub IsSound : List (Option (List Held)) → Type 0
 IsSound structs = (id : ℕ) (members : List Held) → slice_get structs id ≡ Some (Some members) → AreKept (table_of structs) members
 
--- what `layout` answers
+-- what `push_member` answers
+abbrev pub IsPushed : Table → List Held → List ℕ → CType → Result Bool Memory → List Held → Type 0
+IsPushed table old name of (Ok true) new = (l : Layout) × HasLayout table (type_tree of) l × (new ≡ old ++ record { name = name; of = of; layout = l } ∷ []) × AreKept table new
+IsPushed table old name of (Ok false) new = ((l : Layout) → HasLayout table (type_tree of) l → ⊥) × (new ≡ old)
+IsPushed table old name of (Err e) new = new ≡ old
+
+-- what `layout_of` answers
 abbrev pub IsLayoutOf : Table → TypeTree → Option Layout → Type 0
 IsLayoutOf table t None = (l : Layout) → HasLayout table t l → ⊥
 IsLayoutOf table t (Some l) = HasLayout table t l

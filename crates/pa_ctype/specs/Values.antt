@@ -1,11 +1,11 @@
--- Values, places and objects of C (C11 3.15, 3.19, 6.2.4, 6.2.6). There are no addresses: a pointer is a place in an object.
-use Rattle.std.specs.Prelude.{ℕ, zero, suc, ◌+◌, ℤ, Bool, true, false, ◌&&◌, ◌==◌, if◌then◌else◌, List, [], ◌∷◌, ◌++◌, Option, Some, None, option_and_then}
+-- Values, places and objects of C (C11 3.15, 3.19, 6.2.4, 6.2.6, 6.5p7). There are no addresses: a pointer is a place in an
+-- object.
+use Rattle.std.specs.Prelude.{ℕ, zero, suc, ◌+◌, ℤ, ◌≡◌, Bool, true, false, ◌||◌, ◌==◌, nat_le, if◌then◌else◌, List, [], ◌∷◌, ◌++◌, length, Option, Some, None, option_and_then}
 use Rattle.std.specs.Int.{next_multiple_of}
 use Rattle.std.specs.Str.{bytes_eq}
-use Rattle.pa_pac.specs.declared.schema.Schema.{Schema}
-use Rattle.pa_pac.specs.Key.{same_key}
 use Rattle.pa_ctype.specs.declared.ctype.Layout.{Layout}
-use Rattle.pa_ctype.specs.Types.{TypeTree, Of, FormTree, Void, Boolean, Integer, Pointer, Array, Struct, Function, TypeTrees, Nil, Cons}
+use Rattle.pa_ctype.specs.Types.{TypeTree, Of, FormTree, Void, Boolean, Integer, Pointer, Array, Struct, Function}
+use Rattle.pa_ctype.specs.Equality.{same_but_const}
 use Rattle.pa_ctype.specs.Layouts.{Body, Table, body_of, placed, empty, laid}
 
 -- which object: a global by its name, a string literal by its place among those of the program, a local object by its
@@ -30,17 +30,21 @@ pub data Value (Num : Type 0) : Type 0 where
 abbrev pub CValue : Type 0
 CValue = Value ℤ
 
--- a part of an object that holds one value, or none yet
+-- a part of an object that holds one value, or none yet; it begins so many bytes behind the object's first one, and its
+-- type is constant where the object or a part that it lies in is
 pub record Cell : Type 0 where
   pub at : ℕ
   pub of : TypeTree
   pub value : Option CValue
 
+-- an object of so many bytes
 pub record Object : Type 0 where
   pub owner : Owner
+  pub size : ℕ
   pub cells : List Cell
   pub alive : Bool
 
+-- in the order in which they came to life, dead ones too
 abbrev pub Objects : Type 0
 Objects = List Object
 
@@ -50,49 +54,18 @@ same_owner (Text a) (Text b) = a == b
 same_owner (Local a) (Local b) = a == b
 same_owner _ _ = false
 
-abbrev pub same_bool : Bool → Bool → Bool
-same_bool true b = b
-same_bool false true = false
-same_bool false false = true
-
-abbrev pub same_schema : Option Schema → Option Schema → Bool
-same_schema None None = true
-same_schema (Some a) (Some b) = same_key a.key b.key && (same_bool a.addr b.addr && a.disc == b.disc)
-same_schema _ _ = false
-
-abbrev pub same_count : Option ℕ → Option ℕ → Bool
-same_count None None = true
-same_count (Some a) (Some b) = a == b
-same_count _ _ = false
-
--- types that are equal as they are written
-unfoldable mutual
-  pub same_type : TypeTree → TypeTree → Bool
-  same_type (Of a form) (Of b other) = same_bool a b && same_form form other
-
-  pub same_form : FormTree → FormTree → Bool
-  same_form Void Void = true
-  same_form Boolean Boolean = true
-  same_form (Integer a s) (Integer b r) = a == b && same_bool s r
-  same_form (Pointer a s) (Pointer b r) = same_type a b && same_schema s r
-  same_form (Array a m) (Array b n) = same_type a b && same_count m n
-  same_form (Struct a) (Struct b) = a == b
-  same_form (Function ps a) (Function qs b) = same_types ps qs && same_type a b
-  same_form _ _ = false
-
-  pub same_types : TypeTrees → TypeTrees → Bool
-  same_types Nil Nil = true
-  same_types (Cons a ps) (Cons b qs) = same_type a b && same_types ps qs
-  same_types _ _ = false
-
--- but for a `const` of their own
-abbrev pub same_but_const : TypeTree → TypeTree → Bool
-same_but_const (Of a form) (Of b other) = same_form form other
-
 -- the object of this owner
 unfoldable pub object_of : Objects → Owner → Option Object
 object_of [] owner = None
 object_of (object ∷ objects) owner = if same_owner object.owner owner then Some object else object_of objects owner
+
+abbrev pub is_within : ℕ → Option Object → Bool
+is_within offset None = false
+is_within offset (Some object) = nat_le offset object.size
+
+-- the place lies in its object or at its end
+abbrev pub is_in_object : Objects → Place → Bool
+is_in_object objects place = is_within place.offset (object_of objects place.owner)
 
 -- the cell that begins so many bytes behind the object's first one
 unfoldable pub cell_at : List Cell → ℕ → Option Cell
@@ -103,9 +76,12 @@ cell_at (cell ∷ cells) offset = if cell.at == offset then Some cell else cell_
 abbrev pub cell_in : ℕ → TypeTree → Object → Option Cell
 cell_in offset t object = if object.alive then option_and_then (λ cell. if same_but_const cell.of t then Some cell else None) (cell_at object.cells offset) else None
 
+abbrev pub cell_of : Objects → Place → TypeTree → Option Cell
+cell_of objects place t = option_and_then (cell_in place.offset t) (object_of objects place.owner)
+
 -- what a read of that type at the place gives; none where it is undefined
 abbrev pub read : Objects → Place → TypeTree → Option CValue
-read objects place t = option_and_then (λ cell. cell.value) (option_and_then (cell_in place.offset t) (object_of objects place.owner))
+read objects place t = option_and_then (λ cell. cell.value) (cell_of objects place t)
 
 unfoldable pub with_cell : List Cell → ℕ → CValue → List Cell
 with_cell [] offset value = []
@@ -116,10 +92,25 @@ unfoldable pub with_object : (Object → Object) → Objects → Owner → Objec
 with_object change [] owner = []
 with_object change (object ∷ objects) owner = if same_owner object.owner owner then change object ∷ objects else object ∷ with_object change objects owner
 
--- the objects after a write of that type at the place; none where it is undefined, constants aside
+abbrev pub with_value : Objects → Place → CValue → Objects
+with_value objects place value = with_object (λ object. record object { cells = with_cell object.cells place.offset value }) objects place.owner
+
+-- the objects after an initialiser gives a cell its value; none where there is no such cell
+abbrev pub initialised : Objects → Place → TypeTree → CValue → Option Objects
+initialised objects place t value = option_and_then (λ cell. Some (with_value objects place value)) (cell_of objects place t)
+
+abbrev pub is_constant : TypeTree → Bool
+is_constant (Of constant form) = constant
+
+abbrev pub is_literal : Owner → Bool
+is_literal (Text index) = true
+is_literal _ = false
+
+-- the objects after a write of that type at the place; none where it is undefined: there is no such cell, the cell is
+-- constant, or the object is a string literal
 abbrev pub written : Objects → Place → TypeTree → CValue → Option Objects
 written objects place t value =
-    option_and_then (λ cell. Some (with_object (λ object. record object { cells = with_cell object.cells place.offset value }) objects place.owner)) (option_and_then (cell_in place.offset t) (object_of objects place.owner))
+    option_and_then (λ cell. if is_constant cell.of || is_literal place.owner then None else Some (with_value objects place value)) (cell_of objects place t)
 
 -- the objects after that one died
 abbrev pub without : Objects → Owner → Objects
@@ -146,19 +137,20 @@ member_cells lay cells at so_far (field ∷ body) = member_cells_by (cells field
 abbrev pub scalar : TypeTree → ℕ → List Cell
 scalar t at = record { at = at; of = t; value = None } ∷ []
 
--- the cells of an object of a type, the first of them so many bytes behind the object's first one; none has a value yet
+-- the cells of a part of a type, which begins so many bytes behind the object's first one and lies in a constant part or
+-- doesn't; none has a value yet
 unfoldable mutual
-  pub cells_by : (TypeTree → Option Layout) → (ℕ → ℕ → List Cell) → TypeTree → ℕ → List Cell
-  cells_by lay structs (Of constant form) at = form_cells_by lay structs constant form at
+  pub cells_by : (TypeTree → Option Layout) → (Bool → ℕ → ℕ → List Cell) → Bool → TypeTree → ℕ → List Cell
+  cells_by lay structs within (Of constant form) at = form_cells_by lay structs (within || constant) form at
 
-  pub form_cells_by : (TypeTree → Option Layout) → (ℕ → ℕ → List Cell) → Bool → FormTree → ℕ → List Cell
+  pub form_cells_by : (TypeTree → Option Layout) → (Bool → ℕ → ℕ → List Cell) → Bool → FormTree → ℕ → List Cell
   form_cells_by lay structs constant Void at = []
   form_cells_by lay structs constant Boolean at = scalar (Of constant Boolean) at
   form_cells_by lay structs constant (Integer bits signed) at = scalar (Of constant (Integer bits signed)) at
   form_cells_by lay structs constant (Pointer to schema) at = scalar (Of constant (Pointer to schema)) at
   form_cells_by lay structs constant (Array of None) at = []
-  form_cells_by lay structs constant (Array of (Some count)) at = elements_of (lay of) count (cells_by lay structs of) at
-  form_cells_by lay structs constant (Struct id) at = structs id at
+  form_cells_by lay structs constant (Array of (Some count)) at = elements_of (lay of) count (cells_by lay structs constant of) at
+  form_cells_by lay structs constant (Struct id) at = structs constant id at
   form_cells_by lay structs constant (Function params result) at = []
 
 abbrev pub body_cells : (Body → List Cell) → Option Body → List Cell
@@ -166,10 +158,20 @@ body_cells cells None = []
 body_cells cells (Some body) = cells body
 
 -- where structs lie in one another that deep at most
-unfoldable pub cells_of : ℕ → Table → TypeTree → ℕ → List Cell
-cells_of zero table t at = cells_by (laid zero table) (λ id place. []) t at
-cells_of (suc depth) table t at = cells_by (laid (suc depth) table) (λ id place. body_cells (member_cells (laid depth table) (cells_of depth table) place empty) (body_of table id)) t at
+unfoldable pub cells_of : ℕ → Table → Bool → TypeTree → ℕ → List Cell
+cells_of zero table within t at = cells_by (laid zero table) (λ constant id place. []) within t at
+cells_of (suc depth) table within t at =
+    cells_by (laid (suc depth) table) (λ constant id place. body_cells (member_cells (laid depth table) (cells_of depth table constant) place empty) (body_of table id)) within t at
 
--- the objects with one more, which lives and has no value yet
-abbrev pub with_new : Objects → Owner → List Cell → Objects
-with_new objects owner cells = objects ++ record { owner = owner; cells = cells; alive = true } ∷ []
+-- a living object of a type, without a value yet
+pub record IsNew (table : Table) (t : TypeTree) (object : Object) : Type 0 where
+  pub depth : ℕ
+  pub layout : Layout
+  pub is_laid : laid depth table t ≡ Some layout
+  pub size_is : object.size ≡ layout.size
+  pub cells_are : object.cells ≡ cells_of depth table false t 0
+  pub lives : object.alive ≡ true
+
+-- the owner of a local object that comes to life next
+abbrev pub next_local : Objects → Owner
+next_local objects = Local (length objects)
