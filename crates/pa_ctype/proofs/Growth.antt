@@ -1,5 +1,5 @@
 -- The table of structs stays sound when a struct is added, and when one gets its body.
-use Rattle.std.proofs.Common.{◌≡◌, ℕ, zero, suc, List, [], ◌∷◌, ◌++◌, Option, Some, None, subst, ◌⊎◌, inl, inr}
+use Rattle.std.proofs.Common.{◌≡◌, ℕ, zero, suc, List, [], ◌∷◌, ◌++◌, Option, Some, None, refl, subst, length, ◌⊎◌, inl, inr}
 use Rattle.std.specs.List.{slice_get, slice_set}
 use Rattle.pa_ctype.specs.declared.ctype.Layout.{Layout}
 use Rattle.pa_ctype.specs.declared.ctype.Held.{Held}
@@ -41,6 +41,11 @@ get_push [] zero members e = cc
 get_push [] (suc id) members e = cc
 get_push (x ∷ structs) zero members e = e
 get_push (x ∷ structs) (suc id) members e = get_push structs id members e
+
+-- what was pushed is the last one
+pub get_last : {A : Type 0} (xs : List A) (x : A) → slice_get (xs ++ x ∷ []) (length xs) ≡ Some x
+get_last [] x = refl
+get_last (y ∷ xs) x = get_last xs x
 
 pub sound_push : (structs : List (Option (List Held))) → IsSound structs → IsSound (structs ++ None ∷ [])
 sound_push structs h id members e = kept_extends (table_of structs) (table_of (structs ++ None ∷ [])) members (extends_push structs) (h id members (get_push structs id members e))

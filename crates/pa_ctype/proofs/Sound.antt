@@ -217,3 +217,8 @@ few_by structs id (held ∷ more) h l at =
 
 pub few_bytes : (structs : List (Option (List Held))) (id : ℕ) → IsSound structs → IsLaidStruct (table_of structs) id → AreFewBytes structs id
 few_bytes structs id h l members at = few_by structs id members h l at
+
+-- a struct has a layout where its type has one
+pub struct_is_laid : (table : Table) (t : TypeTree) (id : ℕ) (r : Option Layout) → t ≡ Of false (Struct id) → IsLayoutOf table t r → IsSome r → IsLaidStruct table id
+struct_is_laid table t id None e a s = cc
+struct_is_laid table t id (Some l) e a s = λ body b. (l, subst (λ x. HasLayout table x l) e a)

@@ -8,3 +8,6 @@ mod structs;
 pub use ctype::{CType, CTypes, Form, Held, Layout, Member, Members, Structs};
 pub use sizes::{align, layout_of, member, size};
 pub use structs::{declare_struct, define_struct, push_member};
+
+#[cfg(test)]
+mod tests;

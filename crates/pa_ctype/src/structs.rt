@@ -6,12 +6,13 @@ use crate::sizes::layout_of;
 use pa_num::{Memory, Name};
 
 /// One more struct, without a body: its id.
-#[tactic(auto, using(crate::proofs::Growth::sound_push))]
+#[tactic(auto, using(crate::proofs::Growth::sound_push, crate::proofs::Growth::get_last))]
 pub fn declare_struct(structs: &mut Structs) -> Result<u32, Memory>
     requires sound { spec.IsSound structs.old }
     requires room { length structs.old < 2 ^ 32 }
     ensures declared { OnOk result (structs.new ≡ structs.old ++ None ∷ []) }
     ensures id { IfOk result (λ id. id ≡ length structs.old) }
+    ensures open { IfOk result (λ id. slice_get structs.new id ≡ Some None) }
     ensures failed { OnErr result (structs.new ≡ structs.old) }
     ensures sound { spec.IsSound structs.new }
 {
