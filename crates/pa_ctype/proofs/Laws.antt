@@ -48,12 +48,12 @@ struct_layout_keeps lay more h (field ∷ body) l e =
 abbrev pub structs_at : ℕ → Table → ℕ → Option Layout
 structs_at depth table id = option_and_then (struct_layout (laid depth table)) (body_of table id)
 
-structs_keep : (depth more : ℕ) (table : Table) → Keeps (laid depth table) (laid more table) → Keeps (structs_at depth table) (structs_at more table)
+pub structs_keep : (depth more : ℕ) (table : Table) → Keeps (laid depth table) (laid more table) → Keeps (structs_at depth table) (structs_at more table)
 structs_keep depth more table h id l e =
     let (body, p, q) = then_some (struct_layout (laid depth table)) (body_of table id) l e in
     rw p (struct_layout_keeps (laid depth table) (laid more table) h body l q)
 
-laid_suc : (depth : ℕ) (table : Table) → Keeps (laid depth table) (laid (suc depth) table)
+pub laid_suc : (depth : ℕ) (table : Table) → Keeps (laid depth table) (laid (suc depth) table)
 unfolding laid
 laid_suc zero table t l e = layout_by_keeps (λ id. None) (structs_at zero table) (λ id m f. cc) t l e
 laid_suc (suc depth) table t l e = layout_by_keeps (structs_at depth table) (structs_at (suc depth) table) (structs_keep depth (suc depth) table (laid_suc depth table)) t l e

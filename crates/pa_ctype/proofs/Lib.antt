@@ -1,3 +1,4 @@
+pub mod Depth
 pub mod Growth
 pub mod Kept
 pub mod Laws

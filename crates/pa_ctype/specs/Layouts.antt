@@ -1,6 +1,6 @@
 -- How many bytes objects have, of which number their addresses are multiples, and where members lie (C11 6.2.8, 6.5.3.4,
 -- 6.7.2.1; where it leaves a choice, as the Procedure Call Standard for the Arm 64-bit Architecture).
-use Rattle.std.specs.Prelude.{◌≡◌, ℕ, zero, suc, ◌+◌, ◌*◌, ◌/◌, ◌≤◌, max, Bool, true, false, not, ◌||◌, ◌==◌, nat_le, if◌then◌else◌, List, [], ◌∷◌, ◌++◌, Result, Ok, Err, Option, Some, None, option_and_then, slice_get}
+use Rattle.std.specs.Prelude.{◌≡◌, ℕ, zero, suc, ◌+◌, ◌*◌, ◌/◌, ◌≤◌, max, Bool, true, false, not, ◌||◌, ◌==◌, nat_le, if◌then◌else◌, List, [], ◌∷◌, ◌++◌, length, Result, Ok, Err, Option, Some, None, option_and_then, slice_get}
 use Rattle.std.specs.Int.{next_multiple_of}
 use Rattle.std.specs.List.{list_all}
 use Rattle.std.specs.Str.{bytes_eq}
@@ -93,6 +93,10 @@ pub record HasLayout (table : Table) (t : TypeTree) (layout : Layout) : Type 0 w
   pub depth : ℕ
   pub is_laid : laid depth table t ≡ Some layout
 
+-- the layout of a type as a function: structs lie in one another as deep as there are structs, at most
+abbrev pub layout_in : Table → TypeTree → Option Layout
+layout_in table t = laid (length table) table t
+
 -- the size and the alignment of a type
 abbrev pub HasSize : Table → TypeTree → ℕ → Type 0
 HasSize table t size = (l : Layout) × HasLayout table t l × (l.size ≡ size)
@@ -116,6 +120,10 @@ pub record HasMember (table : Table) (id : ℕ) (name : List ℕ) (member : Memb
   pub body : Body
   pub body_is : body_of table id ≡ Some body
   pub found : member_from (laid depth table) name empty 0 body ≡ Some member
+
+-- that member as a function
+abbrev pub member_of : Table → ℕ → List ℕ → Option Member
+member_of table id name = option_and_then (member_from (laid (length table) table) name empty 0) (body_of table id)
 
 -- no member of the struct has that name
 abbrev pub LacksMember : Table → ℕ → List ℕ → Type 0

@@ -1,12 +1,12 @@
 -- Values, places and objects of C (C11 3.15, 3.19, 6.2.4, 6.2.6, 6.5p7). There are no addresses: a pointer is a place in an
 -- object.
-use Rattle.std.specs.Prelude.{ℕ, zero, suc, ◌+◌, ℤ, ◌≡◌, Bool, true, false, ◌||◌, ◌==◌, nat_le, if◌then◌else◌, List, [], ◌∷◌, ◌++◌, length, Option, Some, None, option_and_then}
+use Rattle.std.specs.Prelude.{ℕ, zero, suc, ◌+◌, ℤ, Bool, true, false, ◌||◌, ◌==◌, nat_le, if◌then◌else◌, List, [], ◌∷◌, ◌++◌, length, Option, Some, None, option_and_then}
 use Rattle.std.specs.Int.{next_multiple_of}
 use Rattle.std.specs.Str.{bytes_eq}
 use Rattle.pa_ctype.specs.declared.ctype.Layout.{Layout}
 use Rattle.pa_ctype.specs.Types.{TypeTree, Of, FormTree, Void, Boolean, Integer, Pointer, Array, Struct, Function}
 use Rattle.pa_ctype.specs.Equality.{same_but_const}
-use Rattle.pa_ctype.specs.Layouts.{Body, Table, body_of, placed, empty, laid}
+use Rattle.pa_ctype.specs.Layouts.{Body, Table, body_of, placed, empty, laid, layout_in}
 
 -- which object: a global by its name, a string literal by its place among those of the program, a local object by its
 -- number; objects are numbered from 0 in the order in which they come to life
@@ -163,14 +163,13 @@ cells_of zero table within t at = cells_by (laid zero table) (λ constant id pla
 cells_of (suc depth) table within t at =
     cells_by (laid (suc depth) table) (λ constant id place. body_cells (member_cells (laid depth table) (cells_of depth table constant) place empty) (body_of table id)) within t at
 
+-- the cells of an object of a type
+abbrev pub cells_in : Table → TypeTree → List Cell
+cells_in table t = cells_of (length table) table false t 0
+
 -- a living object of a type, without a value yet
-pub record IsNew (table : Table) (t : TypeTree) (object : Object) : Type 0 where
-  pub depth : ℕ
-  pub layout : Layout
-  pub is_laid : laid depth table t ≡ Some layout
-  pub size_is : object.size ≡ layout.size
-  pub cells_are : object.cells ≡ cells_of depth table false t 0
-  pub lives : object.alive ≡ true
+abbrev pub fresh : Table → Owner → TypeTree → Option Object
+fresh table owner t = option_and_then (λ l. Some (record { owner = owner; size = l.size; cells = cells_in table t; alive = true })) (layout_in table t)
 
 -- the owner of a local object that comes to life next
 abbrev pub next_local : Objects → Owner

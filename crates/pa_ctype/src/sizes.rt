@@ -138,6 +138,7 @@ pub fn layout_of(structs: &Structs, t: &CType) -> Option<Layout>
     requires { spec.IsSound structs.now }
     ensures answer { spec.IsLayoutOf (spec.table_of structs.now) (type_tree t.now) result }
     ensures one { spec.HasOneLayout (spec.table_of structs.now) (type_tree t.now) }
+    ensures value { result ≡ spec.layout_in (spec.table_of structs.now) (type_tree t.now) }
 {
     type_layout(structs.as_slice(), t)
 }
@@ -201,7 +202,8 @@ fn member_of(structs: &[Option<Members>], id: u32, name: &[u8]) -> Option<Member
 pub fn member(structs: &Structs, id: u32, name: &Name) -> Option<Member>
     requires sound { spec.IsSound structs.now }
     requires complete { spec.IsLaidStruct (spec.table_of structs.now) id }
-    ensures { spec.IsMemberOf (spec.table_of structs.now) id name.now result }
+    ensures answer { spec.IsMemberOf (spec.table_of structs.now) id name.now result }
+    ensures value { result ≡ spec.member_of (spec.table_of structs.now) id name.now }
 {
     member_of(structs.as_slice(), id, name.as_slice())
 }
