@@ -1,5 +1,6 @@
 ghost use Rattle.std.specs.Prelude.{◌≡◌, ◌≢◌, ◌≤◌, ◌<◌, ◌+◌, ◌^◌, ◌↔◌, IsTrue, [], length, IfSome, not};
 ghost use Rattle.std.specs.List.{prefix_len};
+ghost use Rattle.pa_num.specs.declared.fault.Fault.TheVariants.{Refused};
 ghost use Rattle.pa_lex.specs.Bytes.{is_line_feed};
 ghost use Rattle.pa_lex.specs.Lexes as lexes;
 ghost use Rattle.pa_lex.specs.Reading as reading;
@@ -86,6 +87,15 @@ fn begins_line(first: bool, text: &[u8]) -> bool
     match text {
         [.., last] => *last == b'\n',
         [] => first,
+    }
+}
+
+fn refused(rule: LexRule, place: u32) -> Fault<LexRule>
+    ensures { result ≡ Refused rule place }
+{
+    Fault::Refused {
+        rule,
+        place: u64::from(place),
     }
 }
 
@@ -194,16 +204,10 @@ impl<'a> Reader<'a> {
     {
         let from = self.place();
         let Some(form) = self.form() else {
-            return Err(Fault::Refused {
-                rule: self.rule(),
-                place: u64::from(from),
-            });
+            return Err(refused(self.rule(), from));
         };
         let Some(kind) = form.kind(alloc)? else {
-            return Err(Fault::Refused {
-                rule: form.rule(),
-                place: u64::from(from),
-            });
+            return Err(refused(form.rule(), from));
         };
         self.advance(form.len());
         let to = self.place();

@@ -140,6 +140,83 @@ const JOINED: [(&str, &str); 24] = [
     ("+ + - -", "Plus 0-1; Plus 2-3; Minus 4-5; Minus 6-7; "),
 ];
 
+/// Each two punctuators of which the first one takes bytes of the second one along.
+const PAIRS: [(&str, &str); 15] = [
+    ("....", "Ellipsis 0-3; Dot 3-4; "),
+    (
+        "&& &== &&& &= &&=",
+        "LogicalAnd 0-2; AndAssign 3-5; Assign 5-6; LogicalAnd 7-9; Ampersand 9-10; AndAssign 11-13; LogicalAnd 14-16; Assign 16-17; ",
+    ),
+    (
+        "*== *=",
+        "MultiplyAssign 0-2; Assign 2-3; MultiplyAssign 4-6; ",
+    ),
+    (
+        "+++ ++ +== += ++=",
+        "Increment 0-2; Plus 2-3; Increment 4-6; AddAssign 7-9; Assign 9-10; AddAssign 11-13; Increment 14-16; Assign 16-17; ",
+    ),
+    (
+        "--> --- -- ->> -> ->= -== -= --= ->>=",
+        "Decrement 0-2; Greater 2-3; Decrement 4-6; Minus 6-7; Decrement 8-10; Arrow 11-13; Greater 13-14; Arrow 15-17; Arrow 18-20; Assign 20-21; SubtractAssign 22-24; Assign 24-25; SubtractAssign 26-28; Decrement 29-31; Assign 31-32; Arrow 33-35; GreaterEqual 35-37; ",
+    ),
+    ("!== !=", "NotEqual 0-2; Assign 2-3; NotEqual 4-6; "),
+    ("/== /=", "DivideAssign 0-2; Assign 2-3; DivideAssign 4-6; "),
+    (
+        "%== %=",
+        "RemainderAssign 0-2; Assign 2-3; RemainderAssign 4-6; ",
+    ),
+    (
+        "<<== <<=",
+        "ShiftLeftAssign 0-3; Assign 3-4; ShiftLeftAssign 5-8; ",
+    ),
+    (
+        ">>== >>=",
+        "ShiftRightAssign 0-3; Assign 3-4; ShiftRightAssign 5-8; ",
+    ),
+    (
+        "<<< << <<= <== <= <<<=",
+        "ShiftLeft 0-2; Less 2-3; ShiftLeft 4-6; ShiftLeftAssign 7-10; LessEqual 11-13; Assign 13-14; LessEqual 15-17; ShiftLeft 18-20; LessEqual 20-22; ",
+    ),
+    (
+        ">>> >> >>= >== >= >>>=",
+        "ShiftRight 0-2; Greater 2-3; ShiftRight 4-6; ShiftRightAssign 7-10; GreaterEqual 11-13; Assign 13-14; GreaterEqual 15-17; ShiftRight 18-20; GreaterEqual 20-22; ",
+    ),
+    ("^== ^=", "XorAssign 0-2; Assign 2-3; XorAssign 4-6; "),
+    (
+        "|== || ||| |= ||=",
+        "OrAssign 0-2; Assign 2-3; LogicalOr 4-6; LogicalOr 7-9; Bar 9-10; OrAssign 11-13; LogicalOr 14-16; Assign 16-17; ",
+    ),
+    ("=== ==", "Equal 0-2; Assign 2-3; Equal 4-6; "),
+];
+
+/// Each keyword, and names that are nearly one.
+const KEYWORDS: [(&str, &str); 6] = [
+    (
+        "auto break case char const continue default do double",
+        "Auto 0-4; Break 5-10; Case 11-15; Char 16-20; Const 21-26; Continue 27-35; Default 36-43; Do 44-46; Double 47-53; ",
+    ),
+    (
+        "else enum extern float for goto if inline int",
+        "Else 0-4; Enum 5-9; Extern 10-16; Float 17-22; For 23-26; Goto 27-31; If 32-34; Inline 35-41; Int 42-45; ",
+    ),
+    (
+        "long register restrict return short signed sizeof static struct",
+        "Long 0-4; Register 5-13; Restrict 14-22; Return 23-29; Short 30-35; Signed 36-42; Sizeof 43-49; Static 50-56; Struct 57-63; ",
+    ),
+    (
+        "switch typedef union unsigned void volatile while _Alignas _Alignof",
+        "Switch 0-6; Typedef 7-14; Union 15-20; Unsigned 21-29; Void 30-34; Volatile 35-43; While 44-49; Alignas 50-58; Alignof 59-67; ",
+    ),
+    (
+        "_Atomic _Bool _Complex _Generic _Imaginary _Noreturn _Static_assert _Thread_local __ptrauth",
+        "Atomic 0-7; Bool 8-13; Complex 14-22; Generic 23-31; Imaginary 32-42; Noreturn 43-52; StaticAssert 53-67; ThreadLocal 68-81; Ptrauth 82-91; ",
+    ),
+    (
+        "Int int_ intx in doo _bool ptrauth _Static",
+        "name [73, 110, 116] 0-3; name [105, 110, 116, 95] 4-8; name [105, 110, 116, 120] 9-13; name [105, 110] 14-16; name [100, 111, 111] 17-20; name [95, 98, 111, 111, 108] 21-26; name [112, 116, 114, 97, 117, 116, 104] 27-34; name [95, 83, 116, 97, 116, 105, 99] 35-42; ",
+    ),
+];
+
 const REFUSED: [(&str, &str); 36] = [
     ("@", "X1 0"),
     ("x @", "X1 2"),
@@ -200,6 +277,8 @@ fn texts_lex_as_by_hand(rt: HostRuntime) -> Result<(), Fail> {
         KINDS.as_slice(),
         ESCAPES.as_slice(),
         JOINED.as_slice(),
+        PAIRS.as_slice(),
+        KEYWORDS.as_slice(),
         REFUSED.as_slice(),
         LARGEST.as_slice(),
     ] {

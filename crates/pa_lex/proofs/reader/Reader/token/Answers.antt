@@ -1,17 +1,19 @@
-use Rattle.std.proofs.Common.{◌≡◌, sym, ◌∙◌, ap, subst, arith, Some, None}
-use Rattle.pa_lex.specs.Reading.{IsKind}
+use Rattle.std.proofs.Common.{◌≡◌, sym, ◌∙◌, ap, subst, arith, Some, None, Err}
+use Rattle.pa_lex.specs.Reading.{IsKind, TakesToken}
 use Rattle.pa_lex.specs.Shapes.{shown, shown_option}
 use Rattle.pa_lex.proofs.Readings.{form_within, takes_token, breaks_nothing, breaks_form}
 use Rattle.pa_lex.proofs.reader.Reader.token.Goals as goal
 
 pub returns-in_default : goal.returns-in_default
 returns-in_default c =
-    breaks_nothing c.args.self.now c.rule.result c.from.result c.requires.more c.requires.stops (sym c.form.ensures ∙ ap shown_option c.in_default.is) c.rule.ensures (c.from.ensures ∙ c.place-from.ensures.value)
+    subst (λ fault. TakesToken c.args.self.now (Err fault) c.args.self.now) (sym c.refused.ensures)
+    (breaks_nothing c.args.self.now c.rule.result c.place-from.result c.requires.more c.requires.stops (sym c.form.ensures ∙ ap shown_option c.in_default.is) c.rule.ensures c.place-from.ensures.value)
 
 pub returns-in_default-2 : goal.returns-in_default-2
 returns-in_default-2 c =
-    breaks_form c.args.self.now (shown c.in-Some.form) c.rule-in_default-2.result c.from-in_default-2.result (sym c.form.ensures ∙ ap shown_option c.in-Some.is) (subst (IsKind (shown c.in-Some.form)) c.in_default-2.is c.in_ok-kind.ensures)
-    c.rule-in_default-2.ensures (c.from-in_default-2.ensures ∙ c.place-from.ensures.value)
+    subst (λ fault. TakesToken c.args.self.now (Err fault) c.args.self.now) (sym c.refused-in_default-2.ensures)
+    (breaks_form c.args.self.now (shown c.in-Some.form) c.rule-in_default-2.result c.place-from.result (sym c.form.ensures ∙ ap shown_option c.in-Some.is) (subst (IsKind (shown c.in-Some.form)) c.in_default-2.is c.in_ok-kind.ensures)
+    c.rule-in_default-2.ensures c.place-from.ensures.value)
 
 pub len-requires : goal.len-requires
 len-requires c = let w = form_within c.args.self.now (shown c.in-Some.form) (sym c.form.ensures ∙ ap shown_option c.in-Some.is) in omega (arith, w.within)

@@ -1,0 +1,220 @@
+-- How many bytes objects have, of which number their addresses are multiples, and where members lie (C11 6.2.8, 6.5.3.4,
+-- 6.7.2.1; where it leaves a choice, as the Procedure Call Standard for the Arm 64-bit Architecture).
+use Rattle.std.specs.Prelude.{◌≡◌, ℕ, zero, suc, ◌+◌, ◌*◌, ◌/◌, ◌≤◌, max, Bool, true, false, not, ◌||◌, ◌==◌, nat_le, if◌then◌else◌, List, [], ◌∷◌, ◌++◌, length, Result, Ok, Err, Option, Some, None, option_and_then, slice_get}
+use Rattle.std.specs.Int.{next_multiple_of}
+use Rattle.std.specs.List.{list_all}
+use Rattle.std.specs.Str.{bytes_eq}
+use Rattle.pa_num.specs.declared.fault.Memory.{Memory}
+use Rattle.pa_ctype.specs.declared.ctype.CType.{CType}
+use Rattle.pa_ctype.specs.declared.ctype.Layout.{Layout}
+use Rattle.pa_ctype.specs.declared.ctype.Held.{Held}
+use Rattle.pa_ctype.specs.declared.ctype.Member.{Member}
+use Rattle.pa_ctype.specs.Types.{TypeTree, Of, FormTree, Void, Boolean, Integer, Pointer, Array, Struct, Function, type_tree}
+
+-- a member, the members of a struct, and the structs by their ids
+pub record Field : Type 0 where
+  pub name : List ℕ
+  pub of : TypeTree
+
+abbrev pub Body : Type 0
+Body = List Field
+
+abbrev pub Table : Type 0
+Table = List (Option Body)
+
+-- the members of the struct of this id
+abbrev pub body_of : Table → ℕ → Option Body
+body_of table id = option_and_then (λ body. body) (slice_get table id)
+
+-- the most bytes that a type has
+abbrev pub most_bytes : ℕ
+most_bytes = 4294967295
+
+abbrev pub small : Layout → Option Layout
+small l = if nat_le l.size most_bytes then Some l else None
+
+-- as many bytes as the address is a multiple of
+abbrev pub aligned_to_size : ℕ → Layout
+aligned_to_size n = record { size = n; align = n }
+
+abbrev pub integer_layout : ℕ → Option Layout
+integer_layout bits = if (bits == 8 || bits == 16) || (bits == 32 || bits == 64) then Some (aligned_to_size (bits / 8)) else None
+
+-- elements side by side, one at least
+abbrev pub times : ℕ → Layout → Option Layout
+times zero l = None
+times (suc n) l = small (record { size = suc n * l.size; align = l.align })
+
+-- one more member behind those that are laid so far
+abbrev pub placed : Layout → Layout → Layout
+placed so_far l = record { size = next_multiple_of so_far.size l.align + l.size; align = max so_far.align l.align }
+
+-- no member is laid yet
+abbrev pub empty : Layout
+empty = record { size = 0; align = 1 }
+
+-- the whole struct ends at a multiple of its alignment
+abbrev pub padded : Layout → Option Layout
+padded l = small (record { size = next_multiple_of l.size l.align; align = l.align })
+
+-- members one behind the other, each at a multiple of its alignment
+unfoldable pub members_from : (TypeTree → Option Layout) → Layout → Body → Option Layout
+members_from lay so_far [] = Some so_far
+members_from lay so_far (field ∷ body) = option_and_then (λ l. members_from lay (placed so_far l) body) (lay field.of)
+
+-- a struct, which has a member at least
+abbrev pub struct_layout : (TypeTree → Option Layout) → Body → Option Layout
+struct_layout lay [] = None
+struct_layout lay (field ∷ body) = option_and_then padded (members_from lay empty (field ∷ body))
+
+-- the layout of a type, where structs have these
+unfoldable mutual
+  pub layout_by : (ℕ → Option Layout) → TypeTree → Option Layout
+  layout_by structs (Of constant form) = form_layout_by structs form
+
+  pub form_layout_by : (ℕ → Option Layout) → FormTree → Option Layout
+  form_layout_by structs Void = None
+  form_layout_by structs Boolean = Some (aligned_to_size 1)
+  form_layout_by structs (Integer bits signed) = integer_layout bits
+  form_layout_by structs (Pointer to schema) = Some (aligned_to_size 8)
+  form_layout_by structs (Array of None) = None
+  form_layout_by structs (Array of (Some count)) = option_and_then (times count) (layout_by structs of)
+  form_layout_by structs (Struct id) = structs id
+  form_layout_by structs (Function params result) = None
+
+-- the layout of a type in which structs lie in one another that deep at most
+unfoldable pub laid : ℕ → Table → TypeTree → Option Layout
+laid zero table t = layout_by (λ id. None) t
+laid (suc depth) table t = layout_by (λ id. option_and_then (struct_layout (laid depth table)) (body_of table id)) t
+
+-- the type is a complete object type, no struct in it holds itself, and no array or struct in it has too many bytes; the
+-- object has this layout
+pub record HasLayout (table : Table) (t : TypeTree) (layout : Layout) : Type 0 where
+  pub depth : ℕ
+  pub is_laid : laid depth table t ≡ Some layout
+
+-- the layout of a type as a function: structs lie in one another as deep as there are structs, at most
+abbrev pub layout_in : Table → TypeTree → Option Layout
+layout_in table t = laid (length table) table t
+
+-- the size and the alignment of a type
+abbrev pub HasSize : Table → TypeTree → ℕ → Type 0
+HasSize table t size = (l : Layout) × HasLayout table t l × (l.size ≡ size)
+
+abbrev pub HasAlign : Table → TypeTree → ℕ → Type 0
+HasAlign table t align = (l : Layout) × HasLayout table t l × (l.align ≡ align)
+
+-- the type is a complete object type, with what `HasLayout` asks
+abbrev pub IsObjectType : Table → TypeTree → Type 0
+IsObjectType table t = (l : Layout) × HasLayout table t l
+
+-- where the first member of that name lies behind those that are laid so far, and its place
+unfoldable pub member_from : (TypeTree → Option Layout) → List ℕ → Layout → ℕ → Body → Option Member
+member_from lay name so_far index [] = None
+member_from lay name so_far index (field ∷ body) =
+    option_and_then (λ l. if bytes_eq field.name name then Some (record { offset = next_multiple_of so_far.size l.align; index = index }) else member_from lay name (placed so_far l) (index + 1) body) (lay field.of)
+
+-- the first member of that name in the struct
+pub record HasMember (table : Table) (id : ℕ) (name : List ℕ) (member : Member) : Type 0 where
+  pub depth : ℕ
+  pub body : Body
+  pub body_is : body_of table id ≡ Some body
+  pub found : member_from (laid depth table) name empty 0 body ≡ Some member
+
+-- that member as a function
+abbrev pub member_of : Table → ℕ → List ℕ → Option Member
+member_of table id name = option_and_then (member_from (laid (length table) table) name empty 0) (body_of table id)
+
+-- no member of the struct has that name
+abbrev pub LacksMember : Table → ℕ → List ℕ → Type 0
+LacksMember table id name = (body : Body) → body_of table id ≡ Some body → list_all (λ field. not (bytes_eq field.name name)) body ≡ true
+
+-- structs of the program as plain data
+abbrev pub field_of : Held → Field
+field_of held = record { name = held.name; of = type_tree held.of }
+
+abbrev pub fields_of : List Held → Body
+fields_of [] = []
+fields_of (held ∷ more) = field_of held ∷ fields_of more
+
+abbrev pub table_entry : Option (List Held) → Option Body
+table_entry None = None
+table_entry (Some members) = Some (fields_of members)
+
+abbrev pub table_of : List (Option (List Held)) → Table
+table_of [] = []
+table_of (entry ∷ more) = table_entry entry ∷ table_of more
+
+-- each member is kept with the layout of its type
+unfoldable pub AreKept : Table → List Held → Type 0
+AreKept table [] = Unit {0}
+AreKept table (held ∷ more) = HasLayout table (type_tree held.of) held.layout × AreKept table more
+
+-- what a struct with a body holds are complete object types, no struct holds itself, and members are kept with their layouts
+abbrev pub IsSound : List (Option (List Held)) → Type 0
+IsSound structs = (id : ℕ) (members : List Held) → slice_get structs id ≡ Some (Some members) → AreKept (table_of structs) members
+
+-- what `push_member` answers
+abbrev pub IsPushed : Table → List Held → List ℕ → CType → Result Bool Memory → List Held → Type 0
+IsPushed table old name of (Ok true) new = (l : Layout) × HasLayout table (type_tree of) l × (new ≡ old ++ record { name = name; of = of; layout = l } ∷ []) × AreKept table new
+IsPushed table old name of (Ok false) new = ((l : Layout) → HasLayout table (type_tree of) l → ⊥) × (new ≡ old)
+IsPushed table old name of (Err e) new = new ≡ old
+
+-- what `layout_of` answers
+abbrev pub IsLayoutOf : Table → TypeTree → Option Layout → Type 0
+IsLayoutOf table t None = (l : Layout) → HasLayout table t l → ⊥
+IsLayoutOf table t (Some l) = HasLayout table t l
+
+-- a type has one layout at most
+abbrev pub HasOneLayout : Table → TypeTree → Type 0
+HasOneLayout table t = (l other : Layout) → HasLayout table t l → HasLayout table t other → l ≡ other
+
+-- what `member` answers
+abbrev pub IsMemberOf : Table → ℕ → List ℕ → Option Member → Type 0
+IsMemberOf table id name None = LacksMember table id name
+IsMemberOf table id name (Some member) = HasMember table id name member
+
+-- the struct has a layout, or no body
+abbrev pub IsLaidStruct : Table → ℕ → Type 0
+IsLaidStruct table id = (body : Body) → body_of table id ≡ Some body → (l : Layout) × HasLayout table (Of false (Struct id)) l
+
+-- each kept layout is small
+unfoldable pub AreSmall : List Held → Type 0
+AreSmall [] = Unit {0}
+AreSmall (held ∷ more) = ((1 ≤ held.layout.align) × (held.layout.align ≤ 8) × (held.layout.size ≤ most_bytes) × (1 ≤ held.layout.size)) × AreSmall more
+
+-- the layout of a struct by the layouts that are kept with its members
+unfoldable pub kept_from : Layout → List Held → Layout
+kept_from so_far [] = so_far
+kept_from so_far (held ∷ more) = kept_from (placed so_far held.layout) more
+
+abbrev pub kept_layout : List Held → Option Layout
+kept_layout [] = None
+kept_layout (held ∷ more) = padded (kept_from empty (held ∷ more))
+
+abbrev pub kept_entry : Option (Option (List Held)) → Option Layout
+kept_entry None = None
+kept_entry (Some None) = None
+kept_entry (Some (Some members)) = kept_layout members
+
+abbrev pub kept_struct : List (Option (List Held)) → ℕ → Option Layout
+kept_struct structs id = kept_entry (slice_get structs id)
+
+-- whether a struct's members are small, where it has a body
+abbrev pub AreSmallStructs : List (Option (List Held)) → Type 0
+AreSmallStructs structs = (id : ℕ) (members : List Held) → slice_get structs id ≡ Some (Some members) → AreSmall members
+
+-- the first member of that name by the layouts that are kept
+unfoldable pub kept_member : List ℕ → Layout → ℕ → List Held → Option Member
+kept_member name so_far index [] = None
+kept_member name so_far index (held ∷ more) =
+    if bytes_eq held.name name then Some (record { offset = next_multiple_of so_far.size held.layout.align; index = index }) else kept_member name (placed so_far held.layout) (index + 1) more
+
+abbrev pub member_in : List ℕ → Option (Option (List Held)) → Option Member
+member_in name None = None
+member_in name (Some None) = None
+member_in name (Some (Some members)) = kept_member name empty 0 members
+
+-- the members of the struct have few bytes, where it has a body
+abbrev pub AreFewBytes : List (Option (List Held)) → ℕ → Type 0
+AreFewBytes structs id = (members : List Held) → slice_get structs id ≡ Some (Some members) → (kept_from empty members).size ≤ most_bytes

@@ -1,0 +1,13 @@
+//! Types of C11 as the compiler knows them, with the layout of objects, and what values, objects and traces of C are.
+#![tactic(auto)]
+
+mod ctype;
+mod sizes;
+mod structs;
+
+pub use ctype::{CType, CTypes, Form, Held, Layout, Member, Members, Structs};
+pub use sizes::{align, layout_of, member, size};
+pub use structs::{declare_struct, define_struct, push_member};
+
+#[cfg(test)]
+mod tests;

@@ -1,0 +1,333 @@
+//! Layouts by hand, as clang has them for arm64 with the same declarations.
+ghost use Rattle.std.specs.Prelude.{◌≡◌, true, false};
+ghost use Rattle.pa_ctype.specs.Types.{Of, Struct, type_tree};
+ghost use Rattle.pa_ctype.specs.Layouts as spec;
+
+use crate::{
+    CType, CTypes, Form, Members, Structs, align, declare_struct, define_struct, layout_of, member,
+    push_member, size,
+};
+use pa_num::Name;
+use pa_pac::{Key, Schema};
+use sqlite_items::Boxed;
+use std::alloc::{AllocError, Global};
+use std::test::Fail;
+
+/// A type of the tables.
+#[derive(Clone, Copy, Debug)]
+enum Shape {
+    Void,
+    Bool,
+    Int(u8),
+    Pointer,
+    Qualified,
+    Function,
+    Struct(u32),
+    Ints(u8, u64),
+    Rows(u8, u64, u64),
+    Structs(u32, u64),
+    Open,
+    Functions,
+}
+
+fn plain(form: Form) -> CType {
+    CType {
+        constant: false,
+        form,
+    }
+}
+
+#[tactic(auto, using(crate::proofs::Views::views))]
+fn struct_type(id: u32) -> CType
+    ensures { type_tree result ≡ Of false (Struct id) }
+{
+    CType {
+        constant: false,
+        form: Form::Struct { id },
+    }
+}
+
+fn int(bits: u8) -> CType {
+    plain(Form::Int { bits, signed: true })
+}
+
+fn array(alloc: Global, of: CType, count: Option<u64>) -> Result<CType, AllocError> {
+    Ok(plain(Form::Array {
+        of: Boxed::new(alloc, of)?,
+        count,
+    }))
+}
+
+fn pointer(alloc: Global, to: CType, schema: Option<Schema>) -> Result<CType, AllocError> {
+    Ok(plain(Form::Pointer {
+        to: Boxed::new(alloc, to)?,
+        schema,
+    }))
+}
+
+fn function(alloc: Global) -> Result<CType, AllocError> {
+    let mut params = CTypes::new(alloc);
+    params.push(int(64))?;
+    Ok(plain(Form::Function {
+        params,
+        result: Boxed::new(alloc, int(32))?,
+    }))
+}
+
+fn made(alloc: Global, shape: Shape) -> Result<CType, AllocError> {
+    let schema = Schema {
+        key: Key::IA,
+        addr: true,
+        disc: 42,
+    };
+    match shape {
+        Shape::Void => Ok(plain(Form::Void)),
+        Shape::Bool => Ok(plain(Form::Bool)),
+        Shape::Int(bits) => Ok(int(bits)),
+        Shape::Pointer => pointer(alloc, plain(Form::Void), None),
+        Shape::Qualified => pointer(alloc, function(alloc)?, Some(schema)),
+        Shape::Function => function(alloc),
+        Shape::Struct(id) => Ok(struct_type(id)),
+        Shape::Ints(bits, count) => array(alloc, int(bits), Some(count)),
+        Shape::Rows(bits, inner, outer) => {
+            array(alloc, array(alloc, int(bits), Some(inner))?, Some(outer))
+        }
+        Shape::Structs(id, count) => array(alloc, struct_type(id), Some(count)),
+        Shape::Open => array(alloc, int(32), None),
+        Shape::Functions => array(alloc, function(alloc)?, Some(2)),
+    }
+}
+
+fn named(alloc: Global, name: &str) -> Result<Name, AllocError> {
+    Name::from_slice(alloc, name.as_bytes())
+}
+
+/// A member of a table: its name, its type and its offset.
+type Row = (&'static str, Shape, u64);
+
+/// One more struct, of these members. None: a member's type has no layout.
+fn add(alloc: Global, structs: &mut Structs, rows: &[Row]) -> Result<Option<u32>, Fail>
+    requires sound { spec.IsSound structs.old }
+    ensures sound { spec.IsSound structs.new }
+{
+    if structs.len() > 100 {
+        return Ok(None);
+    }
+    let id = declare_struct(structs)?;
+    let mut members = Members::new(alloc);
+    for (name, shape, _) in rows {
+        let name = named(alloc, name)?;
+        let of = made(alloc, *shape)?;
+        if !push_member(structs, &mut members, name, of)? {
+            return Ok(None);
+        }
+    }
+    define_struct(structs, id, members);
+    Ok(Some(id))
+}
+
+/// Size and alignment, where the type has a layout.
+fn by_calls(structs: &Structs, t: &CType) -> Option<(u64, u64)>
+    requires { spec.IsSound structs.now }
+{
+    layout_of(structs, t)?;
+    Some((size(structs, t), align(structs, t)))
+}
+
+#[tactic(auto, using(crate::proofs::Sound::struct_is_laid))]
+fn is_laid(structs: &Structs, id: u32) -> bool
+    requires { spec.IsSound structs.now }
+    ensures { result ≡ true → spec.IsLaidStruct (spec.table_of structs.now) id }
+{
+    layout_of(structs, &struct_type(id)).is_some()
+}
+
+/// Offset and place of a member, where the struct has a layout.
+fn member_at(structs: &Structs, id: u32, name: &Name) -> Option<(u64, usize)>
+    requires { spec.IsSound structs.now }
+{
+    if !is_laid(structs, id) {
+        return None;
+    }
+    let found = member(structs, id, name)?;
+    Some((found.offset, found.index as usize))
+}
+
+/// Whether each member lies where its row says, where the struct has a layout, and nowhere else.
+fn members_lie(
+    alloc: Global,
+    structs: &Structs,
+    id: u32,
+    rows: &[Row],
+    laid: bool,
+) -> Result<bool, AllocError>
+    requires { spec.IsSound structs.now }
+{
+    for (index, (name, _, offset)) in rows.iter().enumerate() {
+        let name = named(alloc, name)?;
+        let want = laid.then_some((*offset, index));
+        if member_at(structs, id, &name) != want {
+            return Ok(false);
+        }
+    }
+    Ok(true)
+}
+
+const SHAPES: [(Shape, Option<(u64, u64)>); 22] = [
+    (Shape::Void, None),
+    (Shape::Bool, Some((1, 1))),
+    (Shape::Int(8), Some((1, 1))),
+    (Shape::Int(16), Some((2, 2))),
+    (Shape::Int(32), Some((4, 4))),
+    (Shape::Int(64), Some((8, 8))),
+    (Shape::Int(24), None),
+    (Shape::Pointer, Some((8, 8))),
+    (Shape::Qualified, Some((8, 8))),
+    (Shape::Function, None),
+    (Shape::Functions, None),
+    (Shape::Struct(0), None),
+    (Shape::Structs(0, 1), None),
+    (Shape::Open, None),
+    (Shape::Ints(16, 0), None),
+    (Shape::Ints(16, 3), Some((6, 2))),
+    (Shape::Ints(8, 4_294_967_295), Some((4_294_967_295, 1))),
+    (Shape::Ints(8, 4_294_967_296), None),
+    (Shape::Ints(64, u64::MAX), None),
+    (Shape::Rows(32, 3, 2), Some((24, 4))),
+    (Shape::Rows(8, 65_535, 65_537), Some((4_294_967_295, 1))),
+    (Shape::Rows(8, 65_536, 65_536), None),
+];
+
+const STRUCTS: [(&[Row], Option<(u64, u64)>); 14] = [
+    (&[("a", Shape::Int(8), 0)], Some((1, 1))),
+    (
+        &[("a", Shape::Int(8), 0), ("b", Shape::Int(32), 4)],
+        Some((8, 4)),
+    ),
+    (
+        &[("a", Shape::Int(32), 0), ("b", Shape::Int(8), 4)],
+        Some((8, 4)),
+    ),
+    (
+        &[
+            ("a", Shape::Int(8), 0),
+            ("b", Shape::Int(16), 2),
+            ("c", Shape::Int(8), 4),
+            ("d", Shape::Int(64), 8),
+            ("e", Shape::Bool, 16),
+        ],
+        Some((24, 8)),
+    ),
+    (
+        &[
+            ("flag", Shape::Bool, 0),
+            ("next", Shape::Pointer, 8),
+            ("kind", Shape::Int(8), 16),
+            ("run", Shape::Qualified, 24),
+        ],
+        Some((32, 8)),
+    ),
+    (
+        &[("a", Shape::Ints(8, 3), 0), ("b", Shape::Ints(16, 3), 4)],
+        Some((10, 2)),
+    ),
+    (
+        &[
+            ("a", Shape::Int(8), 0),
+            ("b", Shape::Struct(1), 4),
+            ("c", Shape::Int(8), 12),
+        ],
+        Some((16, 4)),
+    ),
+    (
+        &[("a", Shape::Structs(3, 2), 0), ("b", Shape::Int(8), 48)],
+        Some((56, 8)),
+    ),
+    (
+        &[("a", Shape::Rows(32, 3, 2), 0), ("b", Shape::Int(8), 24)],
+        Some((28, 4)),
+    ),
+    (
+        &[
+            ("a", Shape::Structs(0, 5), 0),
+            ("b", Shape::Struct(5), 6),
+            ("c", Shape::Int(64), 16),
+        ],
+        Some((24, 8)),
+    ),
+    (
+        &[("a", Shape::Struct(9), 0), ("ab", Shape::Int(16), 24)],
+        Some((32, 8)),
+    ),
+    (
+        &[
+            ("a", Shape::Ints(8, 4_294_967_292), 0),
+            ("b", Shape::Bool, 4_294_967_292),
+        ],
+        Some((4_294_967_293, 1)),
+    ),
+    (
+        &[
+            ("a", Shape::Ints(8, 4_294_967_292), 0),
+            ("b", Shape::Int(32), 4_294_967_292),
+        ],
+        None,
+    ),
+    (
+        &[
+            ("a", Shape::Ints(8, 4_294_967_295), 0),
+            ("b", Shape::Bool, 4_294_967_295),
+        ],
+        None,
+    ),
+];
+
+#[test]
+fn types_have_their_layouts(rt: HostRuntime) -> Result<(), Fail> {
+    let structs = Structs::new(rt.alloc());
+    for (shape, want) in &SHAPES {
+        let t = made(rt.alloc(), *shape)?;
+        assert_eq!(rt; by_calls(&structs, &t), *want, "at {shape:?}");
+    }
+    Ok(())
+}
+
+#[test]
+fn structs_have_their_layouts(rt: HostRuntime) -> Result<(), Fail> {
+    let mut structs = Structs::new(rt.alloc());
+    let other = named(rt.alloc(), "other")?;
+    for (rows, want) in &STRUCTS {
+        let added = add(rt.alloc(), &mut structs, rows)?;
+        assert!(rt; added.is_some());
+        let id = added.unwrap_or(0);
+        let t = struct_type(id);
+        assert_eq!(rt; by_calls(&structs, &t), *want, "at {id}");
+        assert_eq!(rt; member_at(&structs, id, &other), None, "at {id}");
+        let lie = members_lie(rt.alloc(), &structs, id, rows, want.is_some())?;
+        assert!(rt; lie, "at {id}");
+    }
+    Ok(())
+}
+
+#[test]
+fn a_struct_without_a_body_has_none(rt: HostRuntime) -> Result<(), Fail> {
+    let mut structs = Structs::new(rt.alloc());
+    // A struct that holds itself, one of an array of those, one of a function, and one of such as hold nothing.
+    for shape in [
+        Shape::Struct(0),
+        Shape::Structs(1, 2),
+        Shape::Function,
+        Shape::Struct(2),
+    ] {
+        let added = add(rt.alloc(), &mut structs, &[("a", shape, 0)])?;
+        assert_eq!(rt; added, None);
+    }
+    assert_eq!(rt; structs.len(), 4);
+    let empty = add(rt.alloc(), &mut structs, &[])?;
+    assert_eq!(rt; empty, Some(4));
+    let t = struct_type(4);
+    assert_eq!(rt; by_calls(&structs, &t), None);
+    let name = named(rt.alloc(), "a")?;
+    assert_eq!(rt; member_at(&structs, 9, &name), None);
+    Ok(())
+}
