@@ -6,7 +6,7 @@ mod expr;
 mod stmt;
 mod unit;
 
-pub use counts::{local_bytes, nodes};
+pub use counts::{local_bytes, nodes, pend, weight};
 pub use expr::{BinaryOperation, Comparison, TExpr, UnaryOperation};
 pub use stmt::{Cell, Cells, TForStart, TStmt};
 pub use unit::{
