@@ -1,0 +1,9 @@
+pub mod Counts
+pub mod Cursors
+pub mod Exprs
+pub mod Files
+pub mod Heights
+pub mod Operators
+pub mod Spells
+pub mod Stmts
+pub mod Views

@@ -1,0 +1,211 @@
+//! What is counted on typed trees.
+
+ghost use Rattle.std.specs.Prelude.{◌≡◌, ◌<◌, ◌+◌, ◌^◌, map, max};
+ghost use Rattle.std.specs.Option.{option_map};
+ghost use Rattle.pa_typed.specs.Counts as spec;
+ghost use Rattle.pa_typed.specs.Views.{t_expr_tree, t_exprs_of, t_stmt_tree, t_stmts_of, t_for_start_tree, cell_tree};
+
+use crate::expr::TExpr;
+use crate::stmt::{Cell, TForStart, TStmt};
+use crate::unit::{Function, Unit};
+
+/// The count of the nodes of the file's syntax tree.
+pub fn nodes(unit: &Unit) -> u64
+    ensures { result ≡ unit.now.nodes }
+{
+    unit.nodes
+}
+
+/// The sizes of the function's objects in bytes, each rounded up to 8.
+pub fn local_bytes(function: &Function) -> u64
+    requires { spec.local_bytes function.now < 2 ^ 64 }
+    ensures { result ≡ spec.local_bytes function.now }
+{
+    let mut total = 0;
+    let mut rest = function.locals.as_slice();
+    'locals: while let [local, tail @ ..] = rest {
+        total += local.size.next_multiple_of(8);
+        rest = tail;
+    }
+    total
+}
+
+/// The values that may wait while the second part is evaluated behind the first.
+#[cycle(pend)]
+fn two_pend(left: &TExpr, right: &TExpr) -> u64
+    requires left { spec.expr_pend (t_expr_tree left.now) < 2 ^ 64 }
+    requires right { 1 + spec.expr_pend (t_expr_tree right.now) < 2 ^ 64 }
+    ensures { result ≡ max (spec.expr_pend (t_expr_tree left.now)) (1 + spec.expr_pend (t_expr_tree right.now)) }
+{
+    expr_pend(left).max(1 + expr_pend(right))
+}
+
+#[cycle(pend)]
+fn parts_pend(parts: &[TExpr]) -> u64
+    requires { spec.parts_pend 0 (t_exprs_of (map t_expr_tree parts.now)) < 2 ^ 64 }
+    ensures { result ≡ spec.parts_pend 0 (t_exprs_of (map t_expr_tree parts.now)) }
+{
+    let mut largest = 0;
+    let mut before = 0;
+    let mut rest = parts;
+    'parts: while let [part, tail @ ..] = rest {
+        largest = (before + expr_pend(part)).max(largest);
+        before += 1;
+        rest = tail;
+    }
+    largest
+}
+
+#[cycle(pend)]
+#[tactic(auto, using(crate::proofs::Views::typed_expr_views, crate::proofs::Sizes::part_count_is))]
+fn expr_pend(e: &TExpr) -> u64
+    requires { spec.expr_pend (t_expr_tree e.now) < 2 ^ 64 }
+    ensures { result ≡ spec.expr_pend (t_expr_tree e.now) }
+{
+    match e {
+        TExpr::LocalPlace { .. }
+        | TExpr::GlobalPlace { .. }
+        | TExpr::StringPlace { .. }
+        | TExpr::Same { .. }
+        | TExpr::Number { .. }
+        | TExpr::FunctionValue { .. } => 1,
+        TExpr::Member { owner, .. } => expr_pend(owner.get()),
+        TExpr::Deref { pointer, .. } => expr_pend(pointer.get()),
+        TExpr::Load { from, .. } | TExpr::LoadSigned { from, .. } => expr_pend(from.get()),
+        TExpr::AddressOf { at, .. } => expr_pend(at.get()),
+        TExpr::Convert { value, .. } | TExpr::Unary { value, .. } => expr_pend(value.get()),
+        TExpr::Store { to, value, .. } | TExpr::StoreSigned { to, value, .. } => {
+            two_pend(to.get(), value.get())
+        }
+        TExpr::Index { left, right, .. }
+        | TExpr::Binary { left, right, .. }
+        | TExpr::PointerAdd { left, right, .. }
+        | TExpr::PointerSub { left, right, .. }
+        | TExpr::Compare { left, right, .. } => two_pend(left.get(), right.get()),
+        TExpr::And { left, right, .. } | TExpr::Or { left, right, .. } => {
+            expr_pend(left.get()).max(expr_pend(right.get()))
+        }
+        TExpr::Choose {
+            test,
+            when_true,
+            when_false,
+            ..
+        } => expr_pend(test.get())
+            .max(expr_pend(when_true.get()))
+            .max(expr_pend(when_false.get())),
+        TExpr::Comma { first, second, .. } => {
+            expr_pend(first.get()).max(expr_pend(second.get()))
+        }
+        TExpr::CallDirect { arguments, .. } => parts_pend(arguments.as_slice()).max(1),
+        TExpr::CallPointer {
+            arguments,
+            function,
+            ..
+        } => parts_pend(arguments.as_slice()).max(
+            arguments.len() as u64 + expr_pend(function.get()),
+        ),
+    }
+}
+
+fn maybe_pend(e: &Option<TExpr>) -> u64
+    requires { spec.maybe_pend (option_map t_expr_tree e.now) < 2 ^ 64 }
+    ensures { result ≡ spec.maybe_pend (option_map t_expr_tree e.now) }
+{
+    match e {
+        Some(e) => expr_pend(e),
+        None => 0,
+    }
+}
+
+fn cells_pend(cells: &[Cell]) -> u64
+    requires { spec.cells_pend (map cell_tree cells.now) < 2 ^ 64 }
+    ensures { result ≡ spec.cells_pend (map cell_tree cells.now) }
+{
+    let mut largest = 0;
+    let mut rest = cells;
+    'cells: while let [cell, tail @ ..] = rest {
+        largest = expr_pend(&cell.value).max(largest);
+        rest = tail;
+    }
+    largest
+}
+
+#[cycle(stmt_pend)]
+fn stmts_pend(stmts: &[TStmt]) -> u64
+    requires { spec.stmts_pend (t_stmts_of (map t_stmt_tree stmts.now)) < 2 ^ 64 }
+    ensures { result ≡ spec.stmts_pend (t_stmts_of (map t_stmt_tree stmts.now)) }
+{
+    let mut largest = 0;
+    let mut rest = stmts;
+    'stmts: while let [stmt, tail @ ..] = rest {
+        largest = stmt_pend(stmt).max(largest);
+        rest = tail;
+    }
+    largest
+}
+
+#[cycle(stmt_pend)]
+#[tactic(auto, using(crate::proofs::Views::typed_stmt_views))]
+fn start_pend(start: &TForStart) -> u64
+    requires { spec.start_pend (t_for_start_tree start.now) < 2 ^ 64 }
+    ensures { result ≡ spec.start_pend (t_for_start_tree start.now) }
+{
+    match start {
+        TForStart::Declares { names } => stmts_pend(names.as_slice()),
+        TForStart::Evaluates { value } => maybe_pend(value),
+    }
+}
+
+#[cycle(stmt_pend)]
+#[tactic(auto, using(crate::proofs::Views::typed_stmt_views))]
+fn stmt_pend(stmt: &TStmt) -> u64
+    requires { spec.stmt_pend (t_stmt_tree stmt.now) < 2 ^ 64 }
+    ensures { result ≡ spec.stmt_pend (t_stmt_tree stmt.now) }
+{
+    match stmt {
+        TStmt::Compound { items } => stmts_pend(items.as_slice()),
+        TStmt::InitLocal { cells, .. } => cells_pend(cells.as_slice()),
+        TStmt::Expression { value } | TStmt::Return { value } => maybe_pend(value),
+        TStmt::If { test, body } | TStmt::While { test, body } | TStmt::DoWhile { body, test } => {
+            expr_pend(test).max(stmt_pend(body.get()))
+        }
+        TStmt::IfElse {
+            test,
+            when_true,
+            when_false,
+        } => expr_pend(test)
+            .max(stmt_pend(when_true.get()))
+            .max(stmt_pend(when_false.get())),
+        TStmt::For {
+            start,
+            test,
+            step,
+            body,
+        } => start_pend(start)
+            .max(maybe_pend(test))
+            .max(maybe_pend(step))
+            .max(stmt_pend(body.get())),
+        TStmt::Switch { value, body } | TStmt::Case { value, body } => {
+            expr_pend(value).max(stmt_pend(body.get()))
+        }
+        TStmt::Default { body } => stmt_pend(body.get()),
+        TStmt::Break | TStmt::Continue => 0,
+    }
+}
+
+/// The largest count of values that may wait while an expression of the function is evaluated, or 0 where it has none.
+#[tactic(auto, unfolding(crate::specs::Counts::pend))]
+pub fn pend(function: &Function) -> u64
+    requires { spec.pend function.now < 2 ^ 64 }
+    ensures { result ≡ spec.pend function.now }
+{
+    stmt_pend(&function.body)
+}
+
+/// What an open call of the function weighs on the stack, in bytes.
+pub fn weight(function: &Function) -> u64
+    requires { spec.weight function.now < 2 ^ 64 }
+    ensures { result ≡ spec.weight function.now }
+{
+    256 + 2 * local_bytes(function) + 16 * pend(function)
+}

@@ -1,0 +1,207 @@
+use pa_ctype::CType;
+use pa_num::{Bytes, Name};
+use pa_pac::Schema;
+use sqlite_items::{Boxed, Items};
+
+/// What is done to one value (C11 6.5.3.3).
+#[derive(Clone, Copy, Debug, PartialEq, Eq)]
+pub enum UnaryOperation {
+    Minus,
+    /// `~`
+    Complement,
+    /// `!`
+    Not,
+}
+
+/// What is done to two values (C11 6.5.5 to 6.5.7, 6.5.10 to 6.5.12).
+#[derive(Clone, Copy, Debug, PartialEq, Eq)]
+pub enum BinaryOperation {
+    Multiply,
+    Divide,
+    Remainder,
+    Add,
+    Subtract,
+    ShiftLeft,
+    ShiftRight,
+    /// `&`
+    And,
+    /// `^`
+    Xor,
+    /// `|`
+    Or,
+}
+
+/// How two values are compared (C11 6.5.8, 6.5.9).
+#[derive(Clone, Copy, Debug, PartialEq, Eq)]
+pub enum Comparison {
+    Less,
+    Greater,
+    LessEqual,
+    GreaterEqual,
+    Equal,
+    NotEqual,
+}
+
+/// An expression of C with its type `of`, each conversion written out. The first six and `Deref` stand for places (C11 6.3.2.1),
+/// the others for values. The parts stand in the order in which they are evaluated.
+#[derive(Drop)]
+pub enum TExpr {
+    /// A local of the function, by its number.
+    LocalPlace {
+        local: u32,
+        of: CType,
+    },
+    /// A global, with the place of its name in the file.
+    GlobalPlace {
+        name: Name,
+        place: u64,
+        of: CType,
+    },
+    /// A string literal, without the zero at its end.
+    StringPlace {
+        bytes: Bytes,
+        of: CType,
+    },
+    /// The place of the innermost store around it, which is evaluated once.
+    Same {
+        of: CType,
+    },
+    /// A member of the struct at a place: its place among the members, and its offset in bytes.
+    Member {
+        owner: Boxed<TExpr>,
+        index: u32,
+        offset: u64,
+        of: CType,
+    },
+    /// `left[right]`, where one side is a pointer.
+    Index {
+        left: Boxed<TExpr>,
+        right: Boxed<TExpr>,
+        pointer_left: bool,
+        of: CType,
+    },
+    /// What a pointer points to.
+    Deref {
+        pointer: Boxed<TExpr>,
+        of: CType,
+    },
+    /// A number of an integer type, in 64 bits of two's complement.
+    Number {
+        value: u64,
+        of: CType,
+    },
+    /// The value at a place.
+    Load {
+        from: Boxed<TExpr>,
+        of: CType,
+    },
+    /// The value at a place whose pointer is signed.
+    LoadSigned {
+        from: Boxed<TExpr>,
+        schema: Schema,
+        of: CType,
+    },
+    /// Stores a value at a place. It gives that value, or the old one where `old` is set (`x++`).
+    Store {
+        to: Boxed<TExpr>,
+        value: Boxed<TExpr>,
+        old: bool,
+        of: CType,
+    },
+    /// As `Store`, at a place whose pointer is signed.
+    StoreSigned {
+        to: Boxed<TExpr>,
+        value: Boxed<TExpr>,
+        old: bool,
+        schema: Schema,
+        of: CType,
+    },
+    /// A pointer to a place.
+    AddressOf {
+        at: Boxed<TExpr>,
+        of: CType,
+    },
+    /// A function's name that is not called, with its place in the file.
+    FunctionValue {
+        name: Name,
+        place: u64,
+        of: CType,
+    },
+    /// A conversion to the type `of` (C11 6.3).
+    Convert {
+        value: Boxed<TExpr>,
+        of: CType,
+    },
+    /// An operator on one value (C11 6.5.3.3).
+    Unary {
+        op: UnaryOperation,
+        value: Boxed<TExpr>,
+        of: CType,
+    },
+    /// An operator on two values of one type, a shift's aside (C11 6.5.5 to 6.5.7, 6.5.10 to 6.5.12).
+    Binary {
+        op: BinaryOperation,
+        left: Boxed<TExpr>,
+        right: Boxed<TExpr>,
+        of: CType,
+    },
+    /// A pointer and an integer, which is added or subtracted (C11 6.5.6).
+    PointerAdd {
+        left: Boxed<TExpr>,
+        right: Boxed<TExpr>,
+        pointer_left: bool,
+        subtracts: bool,
+        of: CType,
+    },
+    /// The difference of two pointers in elements (C11 6.5.6).
+    PointerSub {
+        left: Boxed<TExpr>,
+        right: Boxed<TExpr>,
+        of: CType,
+    },
+    /// A comparison (C11 6.5.8, 6.5.9).
+    Compare {
+        op: Comparison,
+        left: Boxed<TExpr>,
+        right: Boxed<TExpr>,
+        of: CType,
+    },
+    /// `left && right` (C11 6.5.13).
+    And {
+        left: Boxed<TExpr>,
+        right: Boxed<TExpr>,
+        of: CType,
+    },
+    /// `left || right` (C11 6.5.14).
+    Or {
+        left: Boxed<TExpr>,
+        right: Boxed<TExpr>,
+        of: CType,
+    },
+    /// `test ? when_true : when_false` (C11 6.5.15).
+    Choose {
+        test: Boxed<TExpr>,
+        when_true: Boxed<TExpr>,
+        when_false: Boxed<TExpr>,
+        of: CType,
+    },
+    /// `first , second` (C11 6.5.17).
+    Comma {
+        first: Boxed<TExpr>,
+        second: Boxed<TExpr>,
+        of: CType,
+    },
+    /// A call of a function by its name, with the name's place in the file (C11 6.5.2.2).
+    CallDirect {
+        name: Name,
+        place: u64,
+        arguments: Items<TExpr>,
+        of: CType,
+    },
+    /// A call by a pointer, which is evaluated after the arguments.
+    CallPointer {
+        arguments: Items<TExpr>,
+        function: Boxed<TExpr>,
+        of: CType,
+    },
+}

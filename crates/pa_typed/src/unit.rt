@@ -1,0 +1,77 @@
+use crate::stmt::{Cells, TStmt};
+use pa_ctype::{CType, Structs};
+use pa_num::{Name, Sequence};
+
+/// An object of a function: a parameter, or a name that a block declares. `size` and `align` are those of its type, in bytes.
+#[derive(Drop)]
+pub struct CLocal {
+    pub of: CType,
+    pub size: u64,
+    pub align: u64,
+}
+
+/// The objects of a function by their numbers.
+pub type CLocals = Sequence<CLocal>;
+
+/// A function that is defined. `place` is the first byte of its name in the file; `public`: other files see it. The first
+/// `parameters` of its locals are its parameters.
+#[derive(Drop)]
+pub struct Function {
+    pub name: Name,
+    pub place: u64,
+    pub public: bool,
+    pub of: CType,
+    pub parameters: u32,
+    pub locals: CLocals,
+    pub body: TStmt,
+}
+
+/// Functions in order.
+pub type Functions = Sequence<Function>;
+
+/// An object at file level. Its `cells` are the initialized ones.
+#[derive(Drop)]
+pub struct CGlobal {
+    pub name: Name,
+    pub place: u64,
+    pub public: bool,
+    pub of: CType,
+    pub size: u64,
+    pub align: u64,
+    pub cells: Cells,
+}
+
+/// Globals in order.
+pub type CGlobals = Sequence<CGlobal>;
+
+/// A declaration of a function or a global at file level.
+#[derive(Drop)]
+pub struct Declared {
+    pub name: Name,
+    pub place: u64,
+    pub public: bool,
+    pub of: CType,
+}
+
+/// Declarations in the order of the source.
+pub type Declareds = Sequence<Declared>;
+
+/// A file that keeps the rules of types, with the count of the nodes of its syntax tree.
+#[derive(Drop)]
+pub struct Unit {
+    pub functions: Functions,
+    pub globals: CGlobals,
+    pub declared: Declareds,
+    pub structs: Structs,
+    pub nodes: u64,
+}
+
+/// The units of a program together.
+#[derive(Drop)]
+pub struct Program {
+    pub functions: Functions,
+    pub globals: CGlobals,
+    pub declared: Declareds,
+    pub structs: Structs,
+    pub nodes: u64,
+}
