@@ -1,0 +1,7 @@
+pub mod Apart
+pub mod Numbers
+pub mod Rows
+pub mod Spelled
+pub mod Table
+pub mod Texts
+pub mod Whole
