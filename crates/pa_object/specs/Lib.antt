@@ -1,4 +1,5 @@
 pub mod Effects
+pub mod Linkable
 pub mod Machine
 pub mod Run
 pub mod Shape

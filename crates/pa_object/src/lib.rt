@@ -3,8 +3,12 @@
 
 mod end;
 mod flags;
+mod object;
 mod script;
 
 pub use end::{End, Trap};
 pub use flags::Flags;
+pub use object::{
+    Global, Globals, Mark, Marks, Object, Objects, Ref, RefKind, Refs, Slot, SlotValue, Slots,
+};
 pub use script::{Deed, Item, Items};
