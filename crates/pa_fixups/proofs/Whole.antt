@@ -272,11 +272,6 @@ pub count_small : (at : DataAt) (count : ℕ) → AllFit (header_of at count) �
 unfolding header_of
 count_small at count h = omega (arith, h.2.2.2.2.0)
 
-pub zeros_push : (count k : ℕ) (old whole : List ℕ) → k < count → old ++ replicate (count - k) 0 ≡ whole → (old ++ 0 ∷ []) ++ replicate (count - (k + 1)) 0 ≡ whole
-zeros_push count k old whole lt e =
-    let one : count - k ≡ suc (count - (k + 1)) = omega arith in
-    append_assoc old (0 ∷ []) (replicate (count - (k + 1)) 0) ∙ (rw one at e)
-
 -- the parts, put one behind the other
 pub parts_put : (at : DataAt) (fixups : Fixups) (o0 o1 o2 o3 o4 o5 o6 o7 o8 : List ℕ) → FixupsFit at fixups → o0 ≡ [] → o1 ≡ o0 ++ spelled (header_of at (length fixups.imports)) → o2 ≡ o1 ++ spelled (segments_of at)
     → o3 ≡ o2 ++ spelled (pages_of at) → o4 ≡ o3 ++ spelled (map two fixups.starts) → o5 ≡ o4 ++ replicate (imports_at at - starts_end at) 0 → o6 ≡ o5 ++ spelled (entries 1 fixups.imports)

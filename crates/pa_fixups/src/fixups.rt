@@ -9,7 +9,7 @@ use crate::imports::{check_entries, read_names, read_starts};
 use crate::tables::{
     DataAt, Fixups, STARTS, check_starts, check_tables, header_fields, page_fields, segment_fields,
 };
-use pa_layout::{FileField, check, check_zeros, number_of_four, put_fields};
+use pa_layout::{FileField, check, check_zeros, number_of_four, put_fields, put_zeros};
 use pa_num::{Fault, ImageRule, Memory, Name};
 use std::alloc::{AllocError, Global};
 
@@ -50,16 +50,6 @@ fn put_starts(out: &mut Vec<u8>, starts: &[u16]) -> Result<(), AllocError>
 {
     for start in starts {
         put_fields(out, &[FileField::two(*start as u128)])?;
-    }
-    Ok(())
-}
-
-/// Appends `count` zeros.
-fn put_zeros(out: &mut Vec<u8>, count: usize) -> Result<(), AllocError>
-    ensures { OnOk result (out.new.items ≡ out.old.items ++ replicate count 0) }
-{
-    for _ in 0..count {
-        out.push(0)?;
     }
     Ok(())
 }

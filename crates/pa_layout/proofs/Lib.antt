@@ -3,3 +3,4 @@ pub mod Facts
 pub mod Laws
 pub mod NameLaws
 pub mod Pieces
+pub mod Pushed

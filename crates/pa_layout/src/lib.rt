@@ -11,4 +11,4 @@ pub use checks::{Flaw, check, check_fields, check_told, check_zeros};
 pub use field::{FileField, Width, all_fit, first_wrong, put_fields};
 pub use names::{is_name, name_length};
 pub use number::{number_of_eight, number_of_four, number_of_two};
-pub use zeros::first_nonzero;
+pub use zeros::{first_nonzero, put_zeros};

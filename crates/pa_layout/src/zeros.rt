@@ -1,7 +1,8 @@
-ghost use Rattle.std.specs.Prelude.{◌≡◌, ◌≤◌, ◌-◌, length};
+ghost use Rattle.std.specs.Prelude.{◌≡◌, ◌≤◌, ◌-◌, ◌++◌, length, replicate, OnOk};
 ghost use Rattle.pa_layout.specs.Fields.{nonzero_in};
 
 use crate::number::number_of_eight;
+use std::alloc::AllocError;
 
 /// The place of the first byte from `low` up to `high` that isn't zero.
 pub fn first_nonzero(bytes: &[u8], low: usize, high: usize) -> Option<usize>
@@ -20,4 +21,14 @@ pub fn first_nonzero(bytes: &[u8], low: usize, high: usize) -> Option<usize>
         at += 1;
     }
     None
+}
+
+/// Appends `count` zeros. After want of memory the bytes are as before, but for some of the zeros.
+pub fn put_zeros(out: &mut Vec<u8>, count: usize) -> Result<(), AllocError>
+    ensures { OnOk result (out.new.items ≡ out.old.items ++ replicate count 0) }
+{
+    for _ in 0..count {
+        out.push(0)?;
+    }
+    Ok(())
 }

@@ -1,5 +1,5 @@
 use Rattle.std.proofs.Common.{◌≡◌, ◌++◌, ◌-◌, replicate}
-use Rattle.pa_fixups.proofs.fixups.put_zeros.Given as goal
+use Rattle.pa_layout.proofs.zeros.put_zeros.Given as goal
 
 abbrev pub invariant-loop : goal.invariant-loop
 invariant-loop l = l.out.items ++ replicate (l.count - l.counter) 0 ≡ l.fn.out.items ++ replicate l.count 0

@@ -1,6 +1,6 @@
 use Rattle.std.proofs.Common.{◌++◌, replicate}
-use Rattle.pa_fixups.proofs.Whole.{zeros_push}
-use Rattle.pa_fixups.proofs.fixups.put_zeros.Goals as goal
+use Rattle.pa_layout.proofs.Pushed.{zeros_push}
+use Rattle.pa_layout.proofs.zeros.put_zeros.Goals as goal
 
 pub loop-preserved : goal.loop-preserved
 loop-preserved c =

@@ -1,0 +1,283 @@
+-- Where the parts of an image stand, and the tables of its header (mach-o/loader.h: mach_header_64, segment_command_64,
+-- section_64, symtab_command, linkedit_data_command, entry_point_command, dylib_command).
+use Rattle.std.specs.Prelude.{◌≡◌, ℕ, ◌+◌, ◌-◌, ◌*◌, ◌/◌, ◌%◌, ◌≤◌, ◌<◌, ◌^◌, ◌==◌, nat_le, min, max, List, [], ◌∷◌, codes}
+use Rattle.pa_layout.specs.declared.field.FileField.{FileField}
+use Rattle.pa_layout.specs.Fields.{four, eight, sixteen, only_if, text_number}
+use Rattle.pa_macho.specs.declared.header.Role.{Role}
+use Rattle.pa_macho.specs.declared.header.Role.TheVariants.{Main, Library}
+use Rattle.pa_macho.specs.declared.header.Header.{Header}
+use Rattle.pa_macho.specs.declared.places.Sizes.{Sizes}
+use Rattle.pa_macho.specs.declared.places.Places.{Places}
+use Rattle.pa_macho.specs.declared.commands.CommandShape.{CommandShape}
+use Rattle.pa_macho.specs.declared.commands.Segment.{Segment}
+use Rattle.pa_macho.specs.declared.commands.Section.{Section}
+
+-- ---- places
+
+-- the next multiple of a step
+abbrev pub up : ℕ → ℕ → ℕ
+up step n = (n + (step - 1)) / step * step
+
+-- each section begins at a multiple of 16, each segment at a page of 0x4000 bytes, each part of __LINKEDIT at a multiple of
+-- 8; __DATA has a page at least
+unfoldable pub places_of : Header → Places
+places_of h =
+    let text_end = 0x400 + h.text in
+    let stubs = up 16 text_end in
+    let stubs_end = stubs + h.stubs in
+    let consts = up 16 stubs_end in
+    let consts_end = consts + h.consts in
+    let got = up 0x4000 consts_end in
+    let got_end = got + h.got in
+    let cells = up 16 got_end in
+    let cells_end = cells + h.cells in
+    let linkedit = max (up 0x4000 cells_end) (got + 0x4000) in
+    let fixups_end = linkedit + h.fixups in
+    let symbols = up 8 fixups_end in
+    let symbols_end = symbols + h.symbols in
+    let strings = up 8 symbols_end in
+    record {
+      text_end = text_end;
+      stubs = stubs;
+      stubs_end = stubs_end;
+      consts = consts;
+      consts_end = consts_end;
+      got = got;
+      got_end = got_end;
+      cells = cells;
+      cells_end = cells_end;
+      linkedit = linkedit;
+      fixups_end = fixups_end;
+      symbols = symbols;
+      symbols_end = symbols_end;
+      strings = strings;
+      end = strings + h.strings;
+    }
+
+-- the parts stand in this order, and their places are small enough to add to
+pub record Ordered (p : Places) : Type 0 where
+  pub text_end : 0x400 ≤ p.text_end
+  pub stubs : p.text_end ≤ p.stubs
+  pub stubs_end : p.stubs ≤ p.stubs_end
+  pub consts : p.stubs_end ≤ p.consts
+  pub consts_end : p.consts ≤ p.consts_end
+  pub got : p.consts_end ≤ p.got
+  pub got_end : p.got ≤ p.got_end
+  pub cells : p.got_end ≤ p.cells
+  pub cells_end : p.cells ≤ p.cells_end
+  pub linkedit : p.cells_end ≤ p.linkedit
+  pub page : p.got + 0x4000 ≤ p.linkedit
+  pub fixups_end : p.linkedit ≤ p.fixups_end
+  pub symbols : p.fixups_end ≤ p.symbols
+  pub symbols_end : p.symbols ≤ p.symbols_end
+  pub strings : p.symbols_end ≤ p.strings
+  pub end : p.strings ≤ p.end
+  pub small : p.end < 2 ^ 99
+
+-- what sizes say that a file tells
+abbrev pub header_of : Sizes → Header
+header_of s = record {
+  role = s.role;
+  text = s.text;
+  stubs = s.stubs;
+  consts = s.consts;
+  got = s.got;
+  cells = s.cells;
+  fixups = s.fixups;
+  symbols = s.symbols;
+  strings = s.strings;
+}
+
+-- each size has room in four bytes
+pub record AreSmall (s : Sizes) : Type 0 where
+  pub text : s.text < 2 ^ 32
+  pub stubs : s.stubs < 2 ^ 32
+  pub consts : s.consts < 2 ^ 32
+  pub got : s.got < 2 ^ 32
+  pub cells : s.cells < 2 ^ 32
+  pub fixups : s.fixups < 2 ^ 32
+  pub symbols : s.symbols < 2 ^ 32
+  pub strings : s.strings < 2 ^ 32
+
+-- the pages of __DATA
+abbrev pub page_count : Places → ℕ
+page_count p = (p.linkedit - p.got) / 0x4000
+
+-- the fixups have a start of two bytes for each page behind their first 78 bytes, and then imports at a multiple of 4: the
+-- padding between, as far as it lies inside the fixups
+abbrev pub padding_low : Places → ℕ
+padding_low p = min p.fixups_end (p.linkedit + (78 + 2 * page_count p))
+
+abbrev pub padding_high : Places → ℕ
+padding_high p = min p.fixups_end (p.linkedit + up 4 (78 + 2 * page_count p))
+
+-- ---- what depends on the role
+
+abbrev pub base_of : Role → ℕ
+base_of Main = 0x100000000
+base_of Library = 0x180000000
+
+abbrev pub file_type : Role → ℕ
+file_type Main = 2
+file_type Library = 6
+
+abbrev pub flags : Role → ℕ
+flags Main = 0x00200085
+flags Library = 0x85
+
+abbrev pub command_count : Role → ℕ
+command_count Main = 8
+command_count Library = 6
+
+-- where the load commands end; they begin at 32
+abbrev pub commands_end : Role → ℕ
+commands_end Main = 824
+commands_end Library = 728
+
+-- where the command of __TEXT stands
+abbrev pub text_at : Role → ℕ
+text_at Main = 104
+text_at Library = 32
+
+abbrev pub shape : ℕ → ℕ → CommandShape
+shape number size = record { number = number; size = size }
+
+-- the load commands in order, each with its size
+unfoldable pub shapes_of : Role → List CommandShape
+shapes_of Main =
+    shape 0x19 72 ∷ shape 0x19 312 ∷ shape 0x19 232 ∷ shape 0x19 72 ∷ shape 0x80000034 16 ∷ shape 2 24 ∷ shape 0x80000028 24
+    ∷ shape 0xc 40 ∷ []
+shapes_of Library =
+    shape 0x19 312 ∷ shape 0x19 232 ∷ shape 0x19 72 ∷ shape 0x80000034 16 ∷ shape 2 24 ∷ shape 0xd 40 ∷ []
+
+-- ---- the header
+
+unfoldable pub start_of : Role → List FileField
+start_of role = four 0xfeedfacf ∷ four 0x0100000c ∷ four 2 ∷ four (file_type role) ∷ []
+
+-- the count of load commands and their size, which may not pass the file's end
+unfoldable pub counts_of : Role → ℕ → List FileField
+counts_of role len =
+    four (command_count role) ∷ only_if (nat_le (commands_end role) len) (four (commands_end role - 32)) ∷ []
+
+unfoldable pub flags_of : Role → List FileField
+flags_of role = four (flags role) ∷ four 0 ∷ []
+
+-- ---- commands, each behind its number and its size
+
+-- a segment, which may not pass the file's end
+unfoldable pub segment_of : Segment → ℕ → List FileField
+segment_of s len =
+    sixteen s.name ∷ eight s.address ∷ eight s.size ∷ eight s.offset
+    ∷ only_if (nat_le (s.offset + s.file_size) len) (eight s.file_size) ∷ four s.rights ∷ four s.rights ∷ four s.sections
+    ∷ four 0 ∷ []
+
+-- a section, whose size is a whole number of steps
+unfoldable pub section_of : ℕ → Section → List FileField
+section_of base s =
+    sixteen s.name ∷ sixteen s.segment ∷ eight (base + s.offset) ∷ only_if (s.size % s.step == 0) (eight s.size) ∷ four s.offset
+    ∷ four 4 ∷ four 0 ∷ four 0 ∷ four s.flags ∷ four 0 ∷ four 0 ∷ four 0 ∷ []
+
+unfoldable pub page_zero_of : ℕ → List FileField
+page_zero_of len = segment_of
+    (record {
+      name = text_number (codes "__PAGEZERO");
+      address = 0;
+      size = 0x100000000;
+      offset = 0;
+      file_size = 0;
+      rights = 0;
+      sections = 0;
+    })
+    len
+
+unfoldable pub text_segment : Header → Places → ℕ → List FileField
+text_segment h p len = segment_of
+    (record {
+      name = text_number (codes "__TEXT");
+      address = base_of h.role;
+      size = p.got;
+      offset = 0;
+      file_size = p.got;
+      rights = 5;
+      sections = 3;
+    })
+    len
+
+unfoldable pub data_segment : Header → Places → ℕ → List FileField
+data_segment h p len = segment_of
+    (record {
+      name = text_number (codes "__DATA");
+      address = base_of h.role + p.got;
+      size = p.linkedit - p.got;
+      offset = p.got;
+      file_size = p.linkedit - p.got;
+      rights = 3;
+      sections = 2;
+    })
+    len
+
+unfoldable pub linkedit_segment : Header → Places → ℕ → List FileField
+linkedit_segment h p len = segment_of
+    (record {
+      name = text_number (codes "__LINKEDIT");
+      address = base_of h.role + p.linkedit;
+      size = up 0x4000 (p.end - p.linkedit);
+      offset = p.linkedit;
+      file_size = p.end - p.linkedit;
+      rights = 1;
+      sections = 0;
+    })
+    len
+
+abbrev in_text : List ℕ → ℕ → ℕ → ℕ → ℕ → Section
+in_text name offset size step flags = record {
+  name = text_number name;
+  segment = text_number (codes "__TEXT");
+  offset = offset;
+  size = size;
+  step = step;
+  flags = flags;
+}
+
+abbrev in_data : List ℕ → ℕ → ℕ → ℕ → Section
+in_data name offset size step = record {
+  name = text_number name;
+  segment = text_number (codes "__DATA");
+  offset = offset;
+  size = size;
+  step = step;
+  flags = 0;
+}
+
+-- whole words, whole stubs of four words, any bytes; whole slots, any bytes
+unfoldable pub text_section : Header → List FileField
+text_section h = section_of (base_of h.role) (in_text (codes "__text") 0x400 h.text 4 0x80000400)
+
+unfoldable pub stubs_section : Header → Places → List FileField
+stubs_section h p = section_of (base_of h.role) (in_text (codes "__auth_stubs") p.stubs h.stubs 16 0x80000400)
+
+unfoldable pub consts_section : Header → Places → List FileField
+consts_section h p = section_of (base_of h.role) (in_text (codes "__const") p.consts h.consts 1 0)
+
+unfoldable pub got_section : Header → Places → List FileField
+got_section h p = section_of (base_of h.role) (in_data (codes "__auth_got") p.got h.got 8)
+
+unfoldable pub cells_section : Header → Places → List FileField
+cells_section h p = section_of (base_of h.role) (in_data (codes "__data") p.cells h.cells 1)
+
+-- where the fixups stand, and how many bytes they have
+unfoldable pub fixups_command : Header → Places → List FileField
+fixups_command h p = four p.linkedit ∷ four h.fixups ∷ []
+
+-- where the symbols stand and how many of 16 bytes there are, and the same of the strings' bytes
+unfoldable pub symbols_command : Header → Places → List FileField
+symbols_command h p = four p.symbols ∷ only_if (h.symbols % 16 == 0) (four (h.symbols / 16)) ∷ four p.strings ∷ four h.strings ∷ []
+
+-- the program begins at the first word of __text
+unfoldable pub entry_command : List FileField
+entry_command = eight 0x400 ∷ eight 0 ∷ []
+
+-- where the library's name stands in the command, a time, two versions, and the name
+unfoldable pub library_command : List FileField
+library_command = four 24 ∷ four 2 ∷ four 0x10000 ∷ four 0x10000 ∷ sixteen (text_number (codes "libpal.dylib")) ∷ []

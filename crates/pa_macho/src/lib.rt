@@ -1,0 +1,15 @@
+//! The headers of Mach-O images: the header, its load commands, and where the parts of an image stand, read and written.
+#![tactic(auto)]
+
+mod commands;
+mod header;
+mod places;
+mod reading;
+#[cfg(test)]
+mod tests;
+mod writing;
+
+pub use header::{Header, Role};
+pub use places::Places;
+pub use reading::read_header;
+pub use writing::{FRONT, header_fits, write_header};

@@ -1,0 +1,210 @@
+use crate::{FRONT, Header, Role, header_fits, read_header, write_header};
+use pa_num::{Fault, ImageRule};
+use std::alloc::Global;
+use std::test::Fail;
+
+/// An image of 11 words with one function.
+const PROGRAM: Header = Header {
+    role: Role::Main,
+    text: 44,
+    stubs: 0,
+    consts: 0,
+    got: 0,
+    cells: 0,
+    fixups: 81,
+    symbols: 16,
+    strings: 7,
+};
+
+/// An image of 6 words with two functions.
+const LIBRARY: Header = Header {
+    role: Role::Library,
+    text: 24,
+    stubs: 0,
+    consts: 0,
+    got: 0,
+    cells: 0,
+    fixups: 81,
+    symbols: 32,
+    strings: 19,
+};
+
+/// A file that has the header, and zeros where its parts are.
+fn file(alloc: Global, header: &Header) -> Result<Vec<u8>, Fail> {
+    if !header_fits(header) {
+        return Err(Fail::from("header"));
+    }
+    let Ok(mut bytes) = write_header(alloc, header) else {
+        return Err(Fail::from("memory"));
+    };
+    let end = header.places().end;
+    for _ in 0..0x10_0000 {
+        if bytes.len() as u128 >= end {
+            return Ok(bytes);
+        }
+        bytes.push(0)?;
+    }
+    Err(Fail::from("a long file"))
+}
+
+#[test]
+fn spells_both_roles(rt: HostRuntime) -> Result<(), Fail> {
+    let program = file(rt.alloc(), &PROGRAM)?;
+    assert_eq!(rt; program.len(), 32_879);
+    assert_eq!(rt; read_header(&program), Ok(PROGRAM));
+    let library = file(rt.alloc(), &LIBRARY)?;
+    assert_eq!(rt; library.len(), 32_907);
+    assert_eq!(rt; read_header(&library), Ok(LIBRARY));
+    let start = [
+        0xcf, 0xfa, 0xed, 0xfe, 0x0c, 0, 0, 1, 2, 0, 0, 0, 2, 0, 0, 0, 8, 0, 0, 0, 0x18, 3, 0, 0,
+        0x85, 0, 0x20, 0,
+    ];
+    assert_eq!(rt; &program[..28], start.as_slice());
+    assert_eq!(rt; &program[808..824], b"libpal.dylib\0\0\0\0".as_slice());
+    assert_eq!(rt; &library[712..728], b"libpal.dylib\0\0\0\0".as_slice());
+    assert_eq!(rt; FRONT, 0x400);
+    Ok(())
+}
+
+#[test]
+fn spells_every_part(rt: HostRuntime) -> Result<(), Fail> {
+    let header = Header {
+        stubs: 32,
+        consts: 5,
+        got: 16,
+        cells: 0x4001,
+        fixups: 83,
+        ..PROGRAM
+    };
+    let places = header.places();
+    assert_eq!(rt;
+        (places.stubs, places.consts, places.consts_end),
+        (0x430, 0x450, 0x455)
+    );
+    assert_eq!(rt;
+        (places.got, places.cells, places.cells_end),
+        (0x4000, 0x4010, 0x8011)
+    );
+    assert_eq!(rt;
+        (places.linkedit, places.symbols, places.strings),
+        (0xc000, 0xc058, 0xc068)
+    );
+    let bytes = file(rt.alloc(), &header)?;
+    assert_eq!(rt; read_header(&bytes), Ok(header));
+    Ok(())
+}
+
+#[test]
+fn tells_where_a_cut_file_breaks(rt: HostRuntime) -> Result<(), Fail> {
+    let bytes = file(rt.alloc(), &PROGRAM)?;
+    let cuts = [
+        (0, ImageRule::H1, 0),
+        (31, ImageRule::H1, 0),
+        (32, ImageRule::H2, 20),
+        (823, ImageRule::H2, 20),
+        (824, ImageRule::H3, 152),
+        (16_383, ImageRule::H3, 152),
+        (16_384, ImageRule::H3, 464),
+        (32_767, ImageRule::H3, 464),
+        (32_768, ImageRule::H3, 696),
+        (32_878, ImageRule::H3, 696),
+    ];
+    for (len, rule, place) in cuts {
+        assert!(rt; len < bytes.len());
+        let answer = read_header(&bytes[..len]);
+        assert_eq!(rt; answer, Err(Fault::Refused { rule, place }), "at {len}");
+    }
+    Ok(())
+}
+
+#[test]
+fn tells_which_field_breaks(rt: HostRuntime) -> Result<(), Fail> {
+    // A byte that changes in the program's file, and the flaw.
+    let changes = [
+        (0, 0, ImageRule::H1, 0),
+        (8, 0, ImageRule::H1, 8),
+        (12, 3, ImageRule::H1, 12),
+        (12, 6, ImageRule::H1, 24),
+        (16, 9, ImageRule::H2, 16),
+        (36, 1, ImageRule::H2, 32),
+        (32, 0x1a, ImageRule::H4, 32),
+        (784, 0xd, ImageRule::H4, 784),
+        (56, 1, ImageRule::H3, 56),
+        (216, 46, ImageRule::H3, 216),
+        (216, 240, ImageRule::H3, 288),
+        (769, 0, ImageRule::H3, 768),
+        (1_023, 1, ImageRule::H3, 1_023),
+        (1_068, 1, ImageRule::H3, 1_068),
+        (20_000, 1, ImageRule::H3, 20_000),
+        (32_855, 1, ImageRule::H3, 32_855),
+    ];
+    for (at, byte, rule, place) in changes {
+        let mut bytes = file(rt.alloc(), &PROGRAM)?;
+        assert!(rt; at < bytes.len());
+        bytes[at] = byte;
+        let answer = read_header(&bytes);
+        assert_eq!(rt; answer, Err(Fault::Refused { rule, place }), "at {at}");
+    }
+    let mut longer = file(rt.alloc(), &PROGRAM)?;
+    longer.push(0)?;
+    let answer = read_header(&longer);
+    let place = 32_879;
+    assert_eq!(rt;
+        answer,
+        Err(Fault::Refused {
+            rule: ImageRule::H3,
+            place
+        })
+    );
+    Ok(())
+}
+
+#[test]
+fn tells_the_padding_of_the_fixups(rt: HostRuntime) -> Result<(), Fail> {
+    // Two pages have four bytes of starts, and two bytes stand before the imports.
+    let header = Header {
+        cells: 0x4001,
+        fixups: 85,
+        ..PROGRAM
+    };
+    let mut bytes = file(rt.alloc(), &header)?;
+    assert!(rt; 0xc053 < bytes.len());
+    bytes[0xc053] = 1;
+    let place = 0xc053;
+    let answer = read_header(&bytes);
+    assert_eq!(rt;
+        answer,
+        Err(Fault::Refused {
+            rule: ImageRule::H3,
+            place
+        })
+    );
+    Ok(())
+}
+
+#[test]
+fn writes_what_fits(rt: HostRuntime) {
+    let misfits = [
+        Header {
+            text: 46,
+            ..PROGRAM
+        },
+        Header {
+            stubs: 8,
+            ..PROGRAM
+        },
+        Header { got: 4, ..PROGRAM },
+        Header {
+            symbols: 8,
+            ..PROGRAM
+        },
+        Header {
+            cells: 0xffff_ffff,
+            ..PROGRAM
+        },
+    ];
+    for header in misfits {
+        assert!(rt; !header_fits(&header));
+    }
+    assert!(rt; header_fits(&PROGRAM));
+}

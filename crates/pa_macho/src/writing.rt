@@ -1,0 +1,165 @@
+ghost use Rattle.std.specs.Prelude.{◌≡◌, ◌≤◌, ◌++◌, ◌↔◌, IsTrue, IfOk, OnOk};
+ghost use Rattle.std.specs.List.{concat};
+ghost use Rattle.pa_macho.specs.Layout.{Ordered, header_of, places_of};
+ghost use Rattle.pa_macho.specs.Writing as spec;
+ghost use Rattle.pa_macho.specs.Writing.{FieldsFit, HeaderFits, IsFront, front_with};
+
+use crate::commands::{
+    cells_section, commands_end, consts_section, count_fields, data_segment, entry_command,
+    fixups_command, flag_fields, got_section, library_command, linkedit_segment, page_zero,
+    start_fields, stubs_section, symbols_command, text_section, text_segment,
+};
+use crate::header::{Header, Role};
+use crate::places::{Places, Sizes};
+use pa_layout::{FileField, all_fit, put_fields, put_zeros};
+use pa_num::Memory;
+use std::alloc::{AllocError, Global};
+
+/// The bytes before `__text`.
+pub const FRONT: usize = 0x400;
+
+/// The tables of the header have room for their numbers.
+#[tactic(auto, using(crate::proofs::Fits::fits_room, crate::proofs::Fits::room_fits))]
+fn fields_fit(sizes: &Sizes, places: &Places) -> bool
+    requires { Ordered places.now }
+    ensures { IsTrue result ↔ FieldsFit (header_of sizes.now) places.now }
+{
+    let len = places.end;
+    all_fit(&text_segment(sizes, places, len))
+        && all_fit(&text_section(sizes))
+        && all_fit(&stubs_section(sizes, places))
+        && all_fit(&consts_section(sizes, places))
+        && all_fit(&data_segment(sizes, places, len))
+        && all_fit(&got_section(sizes, places))
+        && all_fit(&cells_section(sizes, places))
+        && all_fit(&linkedit_segment(sizes, places, len))
+        && all_fit(&fixups_command(sizes, places))
+        && all_fit(&symbols_command(sizes, places))
+}
+
+/// The header can be written: its sections have whole words, stubs and slots, its symbols are whole, and each number has room
+/// in its field.
+pub fn header_fits(header: &Header) -> bool
+    ensures { IsTrue result ↔ HeaderFits header.now }
+{
+    let sizes = header.sizes();
+    fields_fit(&sizes, &sizes.places())
+}
+
+/// Appends a command's number and size.
+#[tactic(auto, unfolding(crate::specs::Writing::command))]
+fn put_command(out: &mut Vec<u8>, number: u32, size: u32) -> Result<(), AllocError>
+    ensures { OnOk result (out.new.items ≡ out.old.items ++ spec.command number size) }
+{
+    put_fields(
+        out,
+        &[
+            FileField::four(number as u128),
+            FileField::four(size as u128),
+        ],
+    )
+}
+
+#[tactic(auto, using(crate::proofs::Fits::page_zero_fits))]
+fn put_page_zero(out: &mut Vec<u8>, role: Role, len: u128) -> Result<(), AllocError>
+    ensures { OnOk result (out.new.items ≡ out.old.items ++ concat (spec.page_zero_parts role len)) }
+{
+    match role {
+        Role::Main => {
+            put_command(out, 0x19, 72)?;
+            put_fields(out, &page_zero(len))
+        }
+        Role::Library => Ok(()),
+    }
+}
+
+#[tactic(auto, using(crate::proofs::Fits::entry_fits))]
+fn put_entry(out: &mut Vec<u8>, role: Role) -> Result<(), AllocError>
+    ensures { OnOk result (out.new.items ≡ out.old.items ++ concat (spec.entry_parts role)) }
+{
+    match role {
+        Role::Main => {
+            put_command(out, 0x8000_0028, 24)?;
+            put_fields(out, &entry_command())
+        }
+        Role::Library => Ok(()),
+    }
+}
+
+/// The number of the command that names the library: the one that the program loads, or the library itself.
+fn library_number(role: Role) -> u32
+    ensures { result ≡ spec.library_number role }
+{
+    match role {
+        Role::Main => 0xc,
+        Role::Library => 0xd,
+    }
+}
+
+/// Appends the command that names the library, and zeros up to `__text`.
+#[tactic(auto, using(crate::proofs::Fits::library_fits))]
+fn put_library(out: &mut Vec<u8>, role: Role) -> Result<(), AllocError>
+    ensures { OnOk result (out.new.items ≡ out.old.items ++ concat (spec.library_parts role)) }
+{
+    put_command(out, library_number(role), 40)?;
+    put_fields(out, &library_command())?;
+    put_zeros(out, FRONT - commands_end(role) as usize)
+}
+
+#[tactic(auto, using(crate::proofs::Fits::start_fits, crate::proofs::Fits::counts_fit, crate::proofs::Fits::flags_fit))]
+fn put_start(out: &mut Vec<u8>, role: Role, len: u128) -> Result<(), AllocError>
+    requires { 824 ≤ len }
+    ensures { OnOk result (out.new.items ≡ out.old.items ++ concat (spec.start_parts role len)) }
+{
+    put_fields(out, &start_fields(role))?;
+    put_fields(out, &count_fields(role, len))?;
+    put_fields(out, &flag_fields(role))
+}
+
+fn put_segments(out: &mut Vec<u8>, sizes: &Sizes, places: &Places) -> Result<(), AllocError>
+    requires order { Ordered places.now }
+    requires fits { FieldsFit (header_of sizes.now) places.now }
+    ensures { OnOk result (out.new.items ≡ out.old.items ++ concat (spec.segment_parts (header_of sizes.now) places.now)) }
+{
+    let len = places.end;
+    put_command(out, 0x19, 312)?;
+    put_fields(out, &text_segment(sizes, places, len))?;
+    put_fields(out, &text_section(sizes))?;
+    put_fields(out, &stubs_section(sizes, places))?;
+    put_fields(out, &consts_section(sizes, places))?;
+    put_command(out, 0x19, 232)?;
+    put_fields(out, &data_segment(sizes, places, len))?;
+    put_fields(out, &got_section(sizes, places))?;
+    put_fields(out, &cells_section(sizes, places))?;
+    put_command(out, 0x19, 72)?;
+    put_fields(out, &linkedit_segment(sizes, places, len))?;
+    put_command(out, 0x8000_0034, 16)?;
+    put_fields(out, &fixups_command(sizes, places))?;
+    put_command(out, 2, 24)?;
+    put_fields(out, &symbols_command(sizes, places))?;
+    Ok(())
+}
+
+fn put_header(out: &mut Vec<u8>, sizes: &Sizes, places: &Places) -> Result<(), AllocError>
+    requires order { Ordered places.now }
+    requires fits { FieldsFit (header_of sizes.now) places.now }
+    ensures { OnOk result (out.new.items ≡ out.old.items ++ front_with (header_of sizes.now) places.now) }
+{
+    put_start(out, sizes.role, places.end)?;
+    put_page_zero(out, sizes.role, places.end)?;
+    put_segments(out, sizes, places)?;
+    put_entry(out, sizes.role)?;
+    put_library(out, sizes.role)?;
+    Ok(())
+}
+
+/// The bytes before `__text` of the files that have this header: the header, its load commands, and zeros.
+pub fn write_header(alloc: Global, header: &Header) -> Result<Vec<u8>, Memory>
+    requires { HeaderFits header.now }
+    ensures { IfOk result (λ front. IsFront header.now front.items) }
+{
+    let sizes = header.sizes();
+    let mut out = Vec::new(alloc);
+    put_header(&mut out, &sizes, &sizes.places())?;
+    Ok(out)
+}
