@@ -1,5 +1,6 @@
 pub mod Effects
 pub mod Machine
 pub mod Run
+pub mod Script
 pub mod Shape
 pub mod Traps
