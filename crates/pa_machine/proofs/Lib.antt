@@ -1,3 +1,4 @@
 pub mod Room
 pub mod Runs
 pub mod Stores
+pub mod Walks

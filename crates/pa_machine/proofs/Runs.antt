@@ -1,46 +1,40 @@
--- A run by its steps, where no second writer stands beside it.
-use Rattle.std.proofs.Common.{◌≡◌, ℕ, zero, suc, ◌+◌, ◌-◌, ◌<◌, ◌≤◌, max, [], Option, Some, None, refl, sym, ap, subst, ◌∙◌, arith}
+-- A run by its steps.
+use Rattle.std.proofs.Common.{◌≡◌, ℕ, zero, suc, ◌+◌, ◌-◌, ◌<◌, ◌≤◌, max, List, true, map, Option, Some, None, refl, sym, ap, subst, ◌∙◌, arith}
+use Rattle.pa_mem.specs.Memory.{Region}
+use Rattle.pa_mem.proofs.Bytes.{outline}
 use Rattle.pa_pac.specs.Signing.{Code}
 use Rattle.pa_object.specs.declared.end.End.{End}
+use Rattle.pa_object.specs.declared.script.Item.{Item}
 use Rattle.pa_object.specs.Machine.{Machine}
-use Rattle.pa_object.specs.Run.{step, applied_all, advance, advance_by, run}
-use Rattle.pa_object.proofs.Growth.{IsFine, advance-goes, advance-count, advance_by-ended, advance_by-add, advance_by-later}
+use Rattle.pa_object.specs.Run.{Script, step, applied_all, advance, advance_by, run}
+use Rattle.pa_object.specs.Script.{all_fit, ordered_from}
+use Rattle.pa_object.proofs.Growth.{IsFine, Wrote, applied_all_wrote, step_leaves, advance-goes, advance-count, advance_by-ended, advance_by-add, advance_by-later, all_fit-outlines}
 use Rattle.pa_machine.specs.declared.went.Went.{Went}
 use Rattle.pa_machine.specs.declared.went.Went.TheVariants.{Goes, Ended}
+use Rattle.pa_machine.specs.Items.{IsRest}
 use Rattle.pa_machine.specs.Running.{Running, went}
 
-module _ (code : Code) where
+module _ (code : Code) (script : Script) where
   -- a run stands still where the number is reached
-  pub run_reached : (n k : ℕ) (m : Machine) → k ≤ n → n ≤ max k m.count → run code [] n m ≡ run code [] k m
-  run_reached n k m le most = let same : n - m.count ≡ k - m.count = omega arith in ap (λ j. advance_by code [] j m) same
+  pub run_reached : (n k : ℕ) (m : Machine) → k ≤ n → n ≤ max k m.count → run code script n m ≡ run code script k m
+  run_reached n k m le most = let same : n - m.count ≡ k - m.count = omega arith in ap (λ j. advance_by code script j m) same
 
-  pub run_same : (m : Machine) → run code [] m.count m ≡ m
+  pub run_same : (m : Machine) → run code script m.count m ≡ m
   unfolding advance_by
-  run_same m = let none : m.count - m.count ≡ 0 = omega arith in ap (λ k. advance_by code [] k m) none
+  run_same m = let none : m.count - m.count ≡ 0 = omega arith in ap (λ k. advance_by code script k m) none
 
-  pub run_ended : (n : ℕ) (m : Machine) (e : End) → m.ended ≡ Some e → run code [] n m ≡ m
-  run_ended n m e q = advance_by-ended code [] (n - m.count) m e q
+  pub run_ended : (n : ℕ) (m : Machine) (e : End) → m.ended ≡ Some e → run code script n m ≡ m
+  run_ended n m e q = advance_by-ended code script (n - m.count) m e q
 
-  advance_step : (m : Machine) → m.ended ≡ None → advance code [] m ≡ step code m
-  unfolding applied_all
-  advance_step m q = advance-goes code [] m q
-
-  pub run_next : (n : ℕ) (m : Machine) → m.count ≤ n → (run code [] n m).ended ≡ None → run code [] (n + 1) m ≡ step code (run code [] n m)
+  run_next : (n : ℕ) (m : Machine) → m.count ≤ n → run code script (n + 1) m ≡ advance code script (run code script n m)
   unfolding advance_by
-  run_next n m le q =
+  run_next n m le =
       let split : n + 1 - m.count ≡ n - m.count + 1 = omega arith in
-      ap (λ k. advance_by code [] k m) split ∙ advance_by-add code [] (n - m.count) 1 m ∙ advance_step (run code [] n m) q
-
-  pub step_count : (m : Machine) → m.ended ≡ None → (step code m).ended ≡ None → (step code m).count ≡ m.count + 1
-  step_count m q after =
-      let e = advance_step m q in
-      let fine : IsFine (advance code [] m).ended = subst IsFine (sym (ap (λ (x : Machine). x.ended) e ∙ after)) tt in
-      let c = ap (λ (x : Machine). x.count) (sym e) ∙ advance-count code [] m q fine in
-      omega arith
+      ap (λ k. advance_by code script k m) split ∙ advance_by-add code script (n - m.count) 1 m
 
   -- a run that has ended stays as it is
-  pub run_later : (n k : ℕ) (m : Machine) (e : End) → n ≤ k → (run code [] n m).ended ≡ Some e → run code [] k m ≡ run code [] n m
-  run_later n k m e le q = advance_by-later code [] (n - m.count) (k - m.count) m e (omega arith) q
+  pub run_later : (n k : ℕ) (m : Machine) (e : End) → n ≤ k → (run code script n m).ended ≡ Some e → run code script k m ≡ run code script n m
+  run_later n k m e le q = advance_by-later code script (n - m.count) (k - m.count) m e (omega arith) q
 
 pub went-Goes : (o : Option End) → Goes ≡ went o → o ≡ None
 went-Goes None q = refl
@@ -50,21 +44,85 @@ pub went-Ended : (o : Option End) (e : End) → Ended e ≡ went o → o ≡ Som
 went-Ended None e q = cc
 went-Ended (Some f) e q = cc
 
--- what room for a step and the step itself make of a machine that has run so far
-pub record Turned {P : Type 0} (code : P → Code) (first old new : Running P) (n : ℕ) : Type 0 where
-  pub here : new.machine ≡ run (code first.pac) [] (n + 1) first.machine
-  pub machine : new.machine ≡ step (code first.pac) old.machine
-  pub pac : new.pac ≡ first.pac
+-- so far along a run: `left` is what stands behind the items that are done
+pub record Reached {P : Type 0} (code : P → Code) (script left : List Item) (first now : Running P) (n : ℕ) : Type 0 where
+  pub here : now.machine ≡ run (code first.pac) script n first.machine
+  pub goes : now.machine.ended ≡ None
+  pub counted : now.machine.count ≡ n
+  pub pac : now.pac ≡ first.pac
+  pub begun : first.machine.count ≤ n
+  pub ordered : ordered_from n left ≡ true
+  pub rest : IsRest n script left
+  pub fits : all_fit left now.machine.memory ≡ true
 
-pub turned : {P : Type 0} (code : P → Code) (first old room new : Running P) (n : ℕ) → old.machine ≡ run (code first.pac) [] n first.machine → old.machine.ended ≡ None → old.pac ≡ first.pac → first.machine.count ≤ n
-    → room ≡ record old { spare = room.spare } → new ≡ record room { machine = step (code room.pac) room.machine; spare = room.spare - 1 } → Turned code first old new n
-turned {P} code first old room new n here goes pac from made stepped =
-    let same_machine = ap (λ (x : Running P). x.machine) made in
-    let same_pac = ap (λ (x : Running P). x.pac) made ∙ pac in
-    let machine = ap (λ (x : Running P). x.machine) stepped ∙ ap (λ p. step (code p) room.machine) same_pac ∙ ap (step (code first.pac)) same_machine in
-    let next = run_next (code first.pac) n first.machine from (ap (λ (x : Machine). x.ended) (sym here) ∙ goes) in
-    record {
-      here = machine ∙ ap (step (code first.pac)) here ∙ sym next;
-      machine = machine;
-      pac = ap (λ (x : Running P). x.pac) stepped ∙ same_pac;
-    }
+pub reached-none : {P : Type 0} (code : P → Code) (script left : List Item) (first : Running P) (n : ℕ) → n ≡ first.machine.count → first.machine.ended ≡ None → all_fit script first.machine.memory ≡ true → ordered_from n left ≡ true → IsRest n script left
+    → Reached code script left first first n
+reached-none code script left first n is goes fits ordered rest = record {
+  here = sym (ap (λ k. run (code first.pac) script k first.machine) is ∙ run_same (code first.pac) script first.machine);
+  goes = goes;
+  counted = sym is;
+  pac = refl;
+  begun = omega arith;
+  ordered = ordered;
+  rest = rest;
+  fits = rest.fits first.machine.memory fits;
+}
+
+-- room is made, and the items of the instruction are done
+module _ {P : Type 0} (code : P → Code) (script left : List Item) (first now room written : Running P) (n : ℕ) (reached : Reached code script left first now n)
+    (made : room ≡ record now { spare = room.spare }) (done : written ≡ record room { machine = applied_all left n room.machine }) where
+  written-machine : written.machine ≡ applied_all script now.machine.count now.machine
+  written-machine =
+      let same : n ≤ now.machine.count = let counted = reached.counted in omega arith in
+      ap (λ (x : Running P). x.machine) done
+      ∙ ap (λ (x : Running P). applied_all left n x.machine) made
+      ∙ ap (λ k. applied_all left k now.machine) (sym reached.counted)
+      ∙ sym (reached.rest.applied now.machine.count now.machine same)
+
+  written-pac : written.pac ≡ first.pac
+  written-pac = ap (λ (x : Running P). x.pac) done ∙ ap (λ (x : Running P). x.pac) made ∙ reached.pac
+
+  written-rest : written.machine ≡ record now.machine { memory = (applied_all script now.machine.count now.machine).memory }
+  written-rest = written-machine ∙ (applied_all_wrote script now.machine.count now.machine).rest
+
+  pub written-goes : written.machine.ended ≡ None
+  written-goes = ap (λ (m : Machine). m.ended) written-rest ∙ reached.goes
+
+  pub written-count : written.machine.count ≡ n
+  written-count = ap (λ (m : Machine). m.count) written-rest ∙ reached.counted
+
+  -- the instruction is done, and it is the next one of the run
+  module _ (new : Running P) (stepped : new ≡ record written { machine = step (code written.pac) written.machine; spare = written.spare - 1 }) where
+    stepped-machine : new.machine ≡ step (code first.pac) (applied_all script now.machine.count now.machine)
+    stepped-machine = ap (λ (x : Running P). x.machine) stepped ∙ ap (λ p. step (code p) written.machine) written-pac ∙ ap (step (code first.pac)) written-machine
+
+    stepped-advance : new.machine ≡ advance (code first.pac) script now.machine
+    stepped-advance = stepped-machine ∙ sym (advance-goes (code first.pac) script now.machine reached.goes)
+
+    pub stepped-here : new.machine ≡ run (code first.pac) script (n + 1) first.machine
+    stepped-here = stepped-advance ∙ ap (advance (code first.pac) script) reached.here ∙ sym (run_next (code first.pac) script n first.machine reached.begun)
+
+    stepped-memory : map outline new.machine.memory ≡ map outline now.machine.memory
+    stepped-memory =
+        let all = applied_all script now.machine.count now.machine in
+        ap (λ (m : Machine). map outline m.memory) stepped-machine ∙ (step_leaves (code first.pac) all).memory ∙ (applied_all_wrote script now.machine.count now.machine).memory
+
+    pub stepped-reached : (behind : List Item) → new.machine.ended ≡ None → ordered_from (n + 1) behind ≡ true → IsRest (n + 1) left behind → Reached code script behind first new (n + 1)
+    stepped-reached behind goes ordered rest =
+        let fine : IsFine (advance (code first.pac) script now.machine).ended = subst IsFine (sym (ap (λ (m : Machine). m.ended) (sym stepped-advance) ∙ goes)) tt in
+        let begun = reached.begun in
+        let one = ap (λ (m : Machine). m.count) stepped-advance ∙ advance-count (code first.pac) script now.machine reached.goes fine in
+        let counted = reached.counted in
+        record {
+          here = stepped-here;
+          goes = goes;
+          counted = omega arith;
+          pac = ap (λ (x : Running P). x.pac) stepped ∙ written-pac;
+          begun = omega arith;
+          ordered = ordered;
+          rest = record {
+            applied = λ k m h. let lower : n ≤ k = omega arith in reached.rest.applied k m lower ∙ rest.applied k m h;
+            fits = λ memory h. rest.fits memory (reached.rest.fits memory h);
+          };
+          fits = rest.fits new.machine.memory (all_fit-outlines left new.machine.memory now.machine.memory stepped-memory ∙ reached.fits);
+        }

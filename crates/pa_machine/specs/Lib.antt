@@ -1,2 +1,3 @@
 pub mod Processor
 pub mod Running
+pub mod Items

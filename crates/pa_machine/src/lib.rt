@@ -12,6 +12,8 @@ mod loaded;
 mod machine;
 mod memory_access;
 mod processor;
+#[cfg(test)]
+mod tests;
 mod went;
 
 pub use loaded::Loaded;

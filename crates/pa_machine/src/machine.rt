@@ -1,8 +1,10 @@
 //! The machine, step by step.
 
-ghost use Rattle.std.specs.Prelude.{◌≡◌, ◌+◌, ◌-◌, ◌*◌, ◌^◌, ◌<◌, ◌≤◌, length, IfOk, OnOk, OnErr, None, [], ℕ};
+ghost use Rattle.std.specs.Prelude.{◌≡◌, ◌+◌, ◌-◌, ◌*◌, ◌^◌, ◌<◌, ◌≤◌, length, IfOk, OnOk, OnErr, None, [], ℕ, true};
 ghost use Rattle.pa_object.specs.Machine.{begun};
-ghost use Rattle.pa_object.specs.Run.{step, run, end_of};
+ghost use Rattle.pa_object.specs.Run.{step, run, end_of, applied, applied_all};
+ghost use Rattle.pa_object.specs.Script.{fits_item, all_fit, ordered_from};
+ghost use Rattle.pa_machine.specs.Items.{IsRest};
 ghost use Rattle.pa_machine.specs.Running.{went};
 
 use crate::loaded::Loaded;
@@ -10,12 +12,28 @@ use crate::processor::Processor;
 use crate::went::Went;
 use pa_log::Log;
 use pa_num::{Bytes, Memory};
-use pa_object::End;
+use pa_object::{End, Item};
 use pa_pac::Pac;
 use std::alloc::Global;
 use std::marker::Model;
 
 const STEPS_AT_A_TIME: u32 = 4096;
+
+// The items of this number and those behind them.
+fn items_from(items: &[Item], number: u32) -> &[Item]
+    requires { ordered_from 0 items.now ≡ true }
+    ensures ordered { ordered_from number result.now ≡ true }
+    ensures rest { IsRest number items.now result.now }
+{
+    let mut rest = items;
+    while let Some((item, behind)) = rest.split_first() {
+        if item.step >= number {
+            break;
+        }
+        rest = behind;
+    }
+    rest
+}
 
 /// A machine under a function for the authentication codes. It takes memory only where it is made and in `reserve`, which
 /// makes room for what steps print and log.
@@ -113,24 +131,57 @@ impl<'a, P: Pac> Machine<'a, P> {
         Ok(())
     }
 
-    /// Runs until `bound` instructions ran in all, unless the program or a trap ends the run before. Room is made for 4,096
-    /// steps at a time; after want of memory the machine stands where a run for fewer instructions does.
-    pub fn run(&mut self, bound: u32) -> Result<End, Memory>
-        ensures machine { OnOk result (self.new.machine ≡ run (P.code self.old.pac) [] bound self.old.machine) }
+    /// Runs until `bound` instructions ran in all, unless the program or a trap ends the run before. Before each instruction
+    /// the items of its number are applied. Room is made for 4,096 steps at a time; after want of memory the machine stands
+    /// where a run for fewer instructions does.
+    pub fn run(&mut self, script: &[Item], bound: u32) -> Result<End, Memory>
+        requires fits { all_fit script.now self.old.machine.memory ≡ true }
+        requires ordered { ordered_from 0 script.now ≡ true }
+        ensures machine { OnOk result (self.new.machine ≡ run (P.code self.old.pac) script.now bound self.old.machine) }
         ensures end { IfOk result (λ end. end ≡ end_of self.new.machine) }
-        ensures err { OnErr result ((n : ℕ) × (n < bound) × (self.new.machine ≡ run (P.code self.old.pac) [] n self.old.machine)) }
+        ensures err { OnErr result ((n : ℕ) × (n < bound) × (self.new.machine ≡ run (P.code self.old.pac) script.now n self.old.machine)) }
         ensures pac { self.new.pac ≡ self.old.pac }
     {
         if let Some(end) = self.ended() {
             return Ok(end);
         }
-        for count in self.count()..bound {
+        let start = self.count();
+        let mut items = items_from(script, start);
+        for count in start..bound {
             self.make_room(bound - count)?;
+            items = self.apply_all(items, count);
             if let Went::Ended(end) = self.step() {
                 return Ok(end);
             }
         }
         Ok(End::Bound)
+    }
+
+    /// What the second writer does to memory before an instruction. A copy reads all its bytes first. It takes no memory.
+    pub fn apply(&mut self, item: &Item)
+        requires { fits_item item.now self.old.machine.memory ≡ true }
+        ensures { self.new ≡ record self.old { machine = applied item.now self.old.machine } }
+    {
+        self.processor.apply(item);
+    }
+
+    // The items of this number are done, and those behind them are left.
+    fn apply_all<'s>(&mut self, items: &'s [Item], number: u32) -> &'s [Item]
+        requires fits { all_fit items.now self.old.machine.memory ≡ true }
+        requires ordered { ordered_from number items.now ≡ true }
+        ensures machine { self.new ≡ record self.old { machine = applied_all items.now number self.old.machine } }
+        ensures ordered { ordered_from (number + 1) result.now ≡ true }
+        ensures rest { IsRest (number + 1) items.now result.now }
+    {
+        let mut rest = items;
+        while let Some((item, behind)) = rest.split_first() {
+            if item.step != number {
+                break;
+            }
+            self.apply(item);
+            rest = behind;
+        }
+        rest
     }
 
     /// The bytes that the program has printed.

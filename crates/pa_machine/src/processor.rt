@@ -8,14 +8,15 @@ ghost use Rattle.pa_object.specs.Machine as spec;
 ghost use Rattle.pa_object.specs.Machine.{begun};
 ghost use Rattle.pa_object.specs.declared.end.End.TheVariants as end;
 ghost use Rattle.pa_object.specs.Effects.{links, exits, first_or_end, behind_first};
-ghost use Rattle.pa_object.specs.Run.{ends};
+ghost use Rattle.pa_object.specs.Run.{applied, ends};
+ghost use Rattle.pa_object.specs.Script.{fits_item};
 
 use crate::input::Input;
 use crate::loaded::Loaded;
 use pa_log::Log;
 use pa_mem::{Rights, Size, Space};
 use pa_num::{Bytes, Memory};
-use pa_object::{End, Flags, Trap};
+use pa_object::{Deed, End, Flags, Item, Trap};
 use pa_pac::{Key, Way, When};
 use std::alloc::Global;
 use std::marker::Model;
@@ -332,5 +333,20 @@ impl Processor {
         ensures { self.new ≡ record self.old { machine = ends (end.Trap trap) self.old.machine } }
     {
         self.ended = Some(End::Trap(trap));
+    }
+
+    /// What the second writer does to memory. A copy reads all its bytes first.
+    pub fn apply(&mut self, item: &Item)
+        requires { fits_item item.now self.old.machine.memory ≡ true }
+        ensures { self.new ≡ record self.old { machine = applied item.now self.old.machine } }
+    {
+        match &item.deed {
+            Deed::Write { at, bytes } => {
+                let _ = self.space.write_bytes(*at, bytes.as_slice());
+            }
+            Deed::Copy { to, from, count } => {
+                let _ = self.space.copy(*to, *from, u64::from(*count));
+            }
+        }
     }
 }

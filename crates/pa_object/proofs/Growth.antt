@@ -1,7 +1,8 @@
 -- What instructions and runs never take back: output and log only grow, regions keep their places, their lengths and their
 -- rights, and a run counts its instructions.
 use Rattle.std.proofs.Common.{◌≡◌, ℕ, zero, suc, ◌+◌, ◌-◌, ◌*◌, ◌<◌, ◌≤◌, ◌⊎◌, inl, inr, Bool, true, false, cond, List, [], ◌∷◌, ◌++◌, length, map, set, Option, Some, None, refl, sym, ap, subst, ◌∙◌, arith, append_assoc, append-nil, length-append, zero-add, suc-add, one-add}
-use Rattle.std.specs.Prelude.{◌==◌}
+use Rattle.std.specs.Prelude.{◌==◌, ◌&&◌, eqb, leb}
+use Rattle.std.proofs.lemmas.Bool.{and_parts, leb-true, ne_eqb}
 use Rattle.pa_pac.specs.Log.{Log}
 use Rattle.pa_pac.specs.Signing.{Code}
 use Rattle.pa_a64.specs.declared.instr.Instr.{Instr}
@@ -19,19 +20,20 @@ use Rattle.pa_a64.specs.declared.instr.BranchAuthenticatedOp.TheVariants.{Braa, 
 use Rattle.pa_a64.specs.declared.instr.StackOp.TheVariants.{Retab, Pacibsp, Autibsp}
 use Rattle.pa_a64.specs.declared.instr.PlainOp.TheVariants.{Paciza, Autiza, Xpaci}
 use Rattle.pa_a64.specs.declared.instr.ExceptionOp.TheVariants.{Svc, Brk}
-use Rattle.pa_mem.specs.Memory.{Region, store, bytes_at, with_bytes}
-use Rattle.pa_mem.proofs.Bytes.{outline, outlines-with_bytes}
+use Rattle.pa_mem.specs.Memory.{Region, Right, Read, Write, Run, has, allowed, store, bytes_at, with_bytes}
+use Rattle.pa_mem.proofs.Bytes.{Outline, outline, outlines-with_bytes}
 use Rattle.pa_mem.proofs.Ranges.{outlines-store}
 use Rattle.pa_object.specs.declared.end.End.{End}
 use Rattle.pa_object.specs.declared.end.End.TheVariants as end
 use Rattle.pa_object.specs.declared.end.Trap.{Trap}
 use Rattle.pa_object.specs.declared.end.Trap.TheVariants.{FetchAbort, BadWord}
 use Rattle.pa_object.specs.declared.script.Deed.{Deed}
-use Rattle.pa_object.specs.declared.script.Deed.TheVariants.{Write, Copy}
+use Rattle.pa_object.specs.declared.script.Deed.TheVariants as deed
 use Rattle.pa_object.specs.declared.script.Item.{Item}
 use Rattle.pa_object.specs.Machine.{Machine, next}
 use Rattle.pa_object.specs.Traps.{trap_of}
 use Rattle.pa_object.specs.Effects.{effect, called, prints, reads, exits}
+use Rattle.pa_object.specs.Script.{deed_fits, size_of_deed, fits_item, all_fit, ordered_from}
 use Rattle.pa_object.specs.Run.{Script, ends, step, on_word, on_instr, unless_trap, unless_ended, done_to, applied, applied_all, advance, advance_by}
 use Rattle.pa_a64.specs.Decoding.{decoded}
 use Rattle.pa_mem.specs.Memory.{fetch}
@@ -59,10 +61,10 @@ pub record Leaves (n : ℕ) (old new : Machine) : Type 0 where
 -- the same output, and these entries
 logs : (old new : Machine) (entries : Log) → length entries ≤ 2 → new.log ≡ entries ++ old.log → new.output ≡ old.output → map outline new.memory ≡ map outline old.memory → Leaves 1 old new
 logs old new entries few l o m = record {
-  output = record { bytes = []; grown = o ∙ sym (append-nil old.output); few = omega arith };
-  log = record { entries = entries; grown = l; few = few };
-  memory = m;
-}
+    output = record { bytes = []; grown = o ∙ sym (append-nil old.output); few = omega arith };
+    log = record { entries = entries; grown = l; few = few };
+    memory = m;
+  }
 
 -- the same output and log
 keeps : (old new : Machine) → new.log ≡ old.log → new.output ≡ old.output → map outline new.memory ≡ map outline old.memory → Leaves 1 old new
@@ -80,10 +82,10 @@ called_leaves number m = at (number == 1) (number == 2)
 
     at : (a b : Bool) → Leaves 1 m (cond a (next (prints m)) (cond b (next (reads m)) (exits m)))
     at true b = record {
-      output = record { bytes = _; grown = refl; few = omega arith };
-      log = record { entries = []; grown = refl; few = omega arith };
-      memory = refl;
-    }
+        output = record { bytes = _; grown = refl; few = omega arith };
+        log = record { entries = []; grown = refl; few = omega arith };
+        memory = refl;
+      }
     at false b = other b
 
 pub effect_leaves : (code : Code) (instr : Instr) (m : Machine) → Leaves 1 m (effect code instr m)
@@ -201,16 +203,16 @@ LogGrows-more n k a b le g = let few = g.few in record { entries = g.entries; gr
 
 pub Leaves-then : (n k : ℕ) (a b c : Machine) → Leaves n a b → Leaves k b c → Leaves (n + k) a c
 Leaves-then n k a b c g h = record {
-  output = OutputGrows-then n k a.output b.output c.output g.output h.output;
-  log = LogGrows-more (2 * n + 2 * k) (2 * (n + k)) a.log c.log (omega arith) (LogGrows-then (2 * n) (2 * k) a.log b.log c.log g.log h.log);
-  memory = h.memory ∙ g.memory;
-}
+    output = OutputGrows-then n k a.output b.output c.output g.output h.output;
+    log = LogGrows-more (2 * n + 2 * k) (2 * (n + k)) a.log c.log (omega arith) (LogGrows-then (2 * n) (2 * k) a.log b.log c.log g.log h.log);
+    memory = h.memory ∙ g.memory;
+  }
 
 -- ---- the second writer
 
-outlines-deed : (deed : Deed) (memory : List Region) → map outline (done_to deed memory) ≡ map outline memory
-outlines-deed (Write at bytes) memory = outlines-with_bytes memory at bytes
-outlines-deed (Copy to from count) memory = outlines-with_bytes memory to (bytes_at count memory from)
+pub outlines-deed : (deed : Deed) (memory : List Region) → map outline (done_to deed memory) ≡ map outline memory
+outlines-deed (deed.Write at bytes) memory = outlines-with_bytes memory at bytes
+outlines-deed (deed.Copy to from count) memory = outlines-with_bytes memory to (bytes_at count memory from)
 
 -- the second writer changes bytes of memory, and nothing else
 pub record Wrote (old new : Machine) : Type 0 where
@@ -243,10 +245,10 @@ step_leaves code m = Stepped_leaves m (step code m) (step_stepped code m)
 -- a step after the second writer
 written_leaves : (m w n : Machine) → Wrote m w → Leaves 1 w n → Leaves 1 m n
 written_leaves m w n wrote l = record {
-  output = subst (λ x. OutputGrows 1 x n.output) (ap (λ (x : Machine). x.output) wrote.rest) l.output;
-  log = subst (λ x. LogGrows 2 x n.log) (ap (λ (x : Machine). x.log) wrote.rest) l.log;
-  memory = l.memory ∙ wrote.memory;
-}
+    output = subst (λ x. OutputGrows 1 x n.output) (ap (λ (x : Machine). x.output) wrote.rest) l.output;
+    log = subst (λ x. LogGrows 2 x n.log) (ap (λ (x : Machine). x.log) wrote.rest) l.log;
+    memory = l.memory ∙ wrote.memory;
+  }
 
 module _ (code : Code) (script : Script) where
   -- where a machine has no end, it advances by what comes before the instruction and by the instruction
@@ -388,3 +390,44 @@ pub advance_by-later : (code : Code) (script : Script) (n k : ℕ) (m : Machine)
 advance_by-later code script n k m e le q =
     let split : k ≡ n + (k - n) = omega arith in
     ap (λ j. advance_by code script j m) split ∙ advance_by-add code script n (k - n) m ∙ advance_by-ended code script (k - n) (advance_by code script n m) e q
+
+-- ---- rights
+
+has-outline : (right : Right) (one two : Region) → outline one ≡ outline two → has right one ≡ has right two
+has-outline Read one two e = ap (λ (o : Outline). o.reads) e
+has-outline Write one two e = ap (λ (o : Outline). o.writes) e
+has-outline Run one two e = ap (λ (o : Outline). o.runs) e
+
+-- where regions keep their places, lengths and rights, what is allowed stays
+pub allowed-outlines : (right : Right) (one two : List Region) (at n : ℕ) → map outline one ≡ map outline two → allowed right one at n ≡ allowed right two at n
+unfolding allowed
+allowed-outlines right [] [] at n e = refl
+allowed-outlines right [] (b ∷ two) at n e = cc
+allowed-outlines right (a ∷ one) [] at n e = cc
+allowed-outlines right (a ∷ one) (b ∷ two) at n e =
+    let head : outline a ≡ outline b = cc in
+    let tail : map outline one ≡ map outline two = cc in
+    rw (has-outline right a b head, ap (λ (o : Outline). o.base) head, ap (λ (o : Outline). o.size) head, allowed-outlines right one two at n tail)
+
+-- ---- items
+
+fits_item-outlines : (item : Item) (one two : List Region) → map outline one ≡ map outline two → fits_item item one ≡ fits_item item two
+fits_item-outlines item one two e = ap (λ b. b && leb (size_of_deed item.deed) 4096) (at item.deed)
+  where
+    at : (d : Deed) → deed_fits d one ≡ deed_fits d two
+    at (deed.Write place bytes) = allowed-outlines Write one two place (length bytes) e
+    at (deed.Copy to from count) = rw (allowed-outlines Read one two from count e, allowed-outlines Write one two to count e)
+
+pub all_fit-outlines : (items : List Item) (one two : List Region) → map outline one ≡ map outline two → all_fit items one ≡ all_fit items two
+all_fit-outlines [] one two e = refl
+all_fit-outlines (item ∷ items) one two e = rw (fits_item-outlines item one two e, all_fit-outlines items one two e)
+
+-- items of greater numbers are not applied
+pub applied_all-before : (items : List Item) (from number : ℕ) (m : Machine) → ordered_from from items ≡ true → number < from → applied_all items number m ≡ m
+unfolding applied_all
+applied_all-before [] from number m h lt = refl
+applied_all-before (item ∷ items) from number m h lt =
+    let parts = and_parts (leb from item.step) (ordered_from item.step items) h in
+    let le : from ≤ item.step = leb-true from item.step parts.0 in
+    let other : eqb item.step number ≡ false = ne_eqb item.step number (omega arith) in
+    rw other (applied_all-before items item.step number m parts.1 (omega arith))

@@ -44,7 +44,7 @@ pub fn run_program<P: Pac>(alloc: Global, program: &Straight, host: &P) -> Resul
     let words = block(alloc, program)?;
     let loaded = load(alloc, words.as_slice())?;
     let mut machine = Machine::new(alloc, loaded, &[], host)?;
-    let end = machine.run(STEPS)?;
+    let end = machine.run(&[], STEPS)?;
     let (output, log) = machine.into_parts();
     Ok(Ran { output, end, log })
 }

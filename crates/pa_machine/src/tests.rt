@@ -1,0 +1,187 @@
+ghost use Rattle.std.specs.Prelude.{◌≡◌, IfOk, [], None};
+
+use crate::arithmetic::{asr, bitfield, lsl, quotient, with_part};
+use crate::flags::{flags_of_difference, meets};
+use crate::{End, Loaded, Machine, Trap};
+use pa_a64::{BitfieldOp, DivideOp};
+use pa_log::Log;
+use pa_mem::{Rights, Space};
+use pa_num::{Bytes, Memory};
+use pa_pac::{Entry, Event, Key, Way, When, ZeroPac};
+use std::alloc::Global;
+
+const SMALLEST: u64 = 1 << 63;
+
+#[test]
+fn computes_at_the_borders(rt: HostRuntime) {
+    let rows = [
+        (
+            bitfield(BitfieldOp::Sbfm, 0x80, 0, 7),
+            0xFFFF_FFFF_FFFF_FF80,
+        ),
+        (bitfield(BitfieldOp::Ubfm, 0x80, 0, 7), 0x80),
+        (bitfield(BitfieldOp::Sbfm, 0x1F0, 4, 63), 0x1F),
+        // The low four bits, moved up by eight.
+        (
+            bitfield(BitfieldOp::Sbfm, 0x18, 56, 3),
+            0xFFFF_FFFF_FFFF_F800,
+        ),
+        (bitfield(BitfieldOp::Ubfm, 0x18, 56, 3), 0x800),
+        (quotient(DivideOp::Sdiv, SMALLEST, u64::MAX), SMALLEST),
+        (quotient(DivideOp::Sdiv, u64::MAX - 6, 2), u64::MAX - 2),
+        (quotient(DivideOp::Sdiv, 7, 0), 0),
+        (quotient(DivideOp::Udiv, u64::MAX, 2), SMALLEST - 1),
+        (quotient(DivideOp::Udiv, 7, 0), 0),
+        (lsl(3, 63), SMALLEST),
+        (lsl(3, 64), 3),
+        (asr(SMALLEST, 63), u64::MAX),
+        (asr(SMALLEST, 64), SMALLEST),
+        (
+            with_part(0x1111_2222_3333_4444, 2, 0xABCD),
+            0x1111_ABCD_3333_4444,
+        ),
+    ];
+    for (result, expected) in rows {
+        assert_eq!(rt; result, expected);
+    }
+}
+
+// Numbers, and the conditions that their difference meets, a bit for each.
+#[test]
+fn meets_conditions(rt: HostRuntime) {
+    let rows = [
+        (0, 0, 0xE6A5),
+        (0, 1, 0xEA9A),
+        (5, 3, 0xD5A6),
+        (SMALLEST, 1, 0xE966),
+        (SMALLEST - 1, u64::MAX, 0xD65A),
+        (u64::MAX, 1, 0xE996),
+    ];
+    for (x, y, expected) in rows {
+        let flags = flags_of_difference(x, y);
+        for condition in 0..16u8 {
+            let held = expected >> condition & 1 == 1;
+            assert_eq!(rt; meets(flags, condition), held, "{x} {y} {condition}");
+        }
+    }
+}
+
+// Sixteen bytes to read and write at 0x2000, sixteen more right behind them, and these words at 0x4000.
+fn space(alloc: Global, words: &[u32]) -> Result<Space, Memory> {
+    let data = Rights {
+        read: true,
+        write: true,
+        run: false,
+    };
+    let mut code = Bytes::new(alloc);
+    for word in words {
+        code.extend_from_slice(&word.to_le_bytes())?;
+    }
+    let mut space = Space::new(alloc);
+    space.add(0x2000, Bytes::from_slice(alloc, &[0; 16])?, data)?;
+    space.add(0x2010, Bytes::from_slice(alloc, &[0; 16])?, data)?;
+    space.add(0x4000, code, Rights::RUN)?;
+    Ok(space)
+}
+
+fn machine<'a>(
+    alloc: Global,
+    words: &[u32],
+    p: &'a ZeroPac,
+) -> Result<Machine<'a, ZeroPac>, Memory> {
+    let loaded = Loaded {
+        space: space(alloc, words)?,
+        log: Log::new(alloc),
+        pc: 0x4000,
+        sp: 0x2010,
+    };
+    Machine::new(alloc, loaded, b"z", p)
+}
+
+#[test]
+fn ends(rt: HostRuntime) {
+    let rows = [
+        // svc #4; brk #0; a word of no row; no word at all.
+        (&[0xD400_0081][..], End::Trap(Trap::BadWord)),
+        (&[0xD420_0000][..], End::Trap(Trap::Break)),
+        (&[0][..], End::Trap(Trap::BadWord)),
+        (&[][..], End::Trap(Trap::FetchAbort)),
+        // A pair over the border of two regions, and a sum of what it reads back.
+        (
+            &[
+                0xD284_0101,
+                0xD280_00E2,
+                0xD280_0123,
+                0xA900_0C22,
+                0xA940_1424,
+                0x8B05_0080,
+                0xD400_0061,
+            ][..],
+            End::Exit(16),
+        ),
+        // A pair whose second half lies in no region.
+        (&[0xD284_0301, 0xA900_0C22][..], End::Trap(Trap::DataAbort)),
+        // A signed address that was changed.
+        (
+            &[0xD503_237F, 0xD2E0_021E, 0xD65F_0FFF][..],
+            End::Trap(Trap::AuthFail),
+        ),
+    ];
+    for (words, expected) in rows {
+        let mut machine = machine(rt.alloc(), words, &ZeroPac).expect(&rt, "ample memory");
+        assert_eq!(rt; machine.run(&[], 100), Ok(expected));
+        assert!(rt; machine.output().is_empty());
+    }
+}
+
+#[test]
+fn stops_at_its_bound(rt: HostRuntime) {
+    // Prints x0, reads a byte, prints it, reads at the input's end, and exits.
+    let words = [
+        0xD280_2820,
+        0xD400_0021,
+        0xD400_0041,
+        0xD400_0021,
+        0xD400_0041,
+        0xD400_0061,
+    ];
+    let mut machine = machine(rt.alloc(), &words, &ZeroPac).expect(&rt, "ample memory");
+    assert_eq!(rt; machine.run(&[], 0), Ok(End::Bound));
+    assert_eq!(rt; machine.run(&[], 1), Ok(End::Bound));
+    assert!(rt; machine.output().is_empty());
+    assert_eq!(rt; machine.run(&[], 5), Ok(End::Bound));
+    assert_eq!(rt; machine.output(), &b"Az"[..]);
+    assert_eq!(rt; machine.run(&[], 6), Ok(End::Exit(-1)));
+    assert_eq!(rt; machine.run(&[], 7), Ok(End::Exit(-1)));
+    assert_eq!(rt; machine.output(), &b"Az"[..]);
+}
+
+#[test]
+fn calls_by_x30(rt: HostRuntime) {
+    // blraa x30, x1 goes to the old x30 and leaves the next place there, which becomes the status.
+    let words = [
+        0xD288_021E,
+        0xD280_00A1,
+        0xD73F_0BC1,
+        0xD420_0000,
+        0xAA1E_03E0,
+        0xD400_0061,
+    ];
+    let mut machine = machine(rt.alloc(), &words, &ZeroPac).expect(&rt, "ample memory");
+    assert_eq!(rt; machine.run(&[], 100), Ok(End::Exit(0x400C)));
+    let take = Event::Take {
+        key: Key::IA,
+        modifier: 5,
+        raw: 0x4010,
+        known: false,
+    };
+    let land = Event::Land {
+        way: Way::Call,
+        target: 0x4010,
+    };
+    let when = When::Step(2);
+    assert_eq!(rt;
+        machine.log().entries(),
+        &[Entry { when, event: take }, Entry { when, event: land }][..]
+    );
+}
