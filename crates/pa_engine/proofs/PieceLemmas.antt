@@ -1,7 +1,7 @@
 -- A text that is written in pieces.
-use Rattle.std.proofs.Common.{◌≡◌, ℕ, suc, ◌+◌, ◌-◌, ◌≤◌, List, [], ◌∷◌, ◌++◌, length, take, drop, Option, Some, None, arith, append_assoc, append-nil, length-append, zero-add, refl, sym, ◌∙◌, ap, ◌<◌, get_or, flat_map}
+use Rattle.std.proofs.Common.{◌≡◌, ℕ, suc, ◌+◌, ◌≤◌, List, [], ◌∷◌, ◌++◌, length, take, drop, Option, arith, append_assoc, append-nil, length-append, zero-add, refl, sym, ◌∙◌, ap, ◌<◌, get_or, flat_map}
 use Rattle.std.proofs.lemmas.List.{take-append-le, drop_more}
-use Rattle.pa_io.specs.Outside.{Grew, Stayed, GrewByPrefix}
+use Rattle.pa_io.specs.Outside.{Grew, GrewByPrefix}
 use Rattle.pa_io.proofs.Growth.{Grew-none, Grew-append, Written}
 use Rattle.pa_engine.specs.Pieces.{Passed}
 

@@ -1,5 +1,5 @@
 -- The report as the pieces in which it is written.
-use Rattle.std.proofs.Common.{◌≡◌, ℕ, List, ◌++◌, [], reverse, flat_map, codes, Bool, cond, append_assoc, refl, sym, ◌∙◌, ap}
+use Rattle.std.proofs.Common.{◌≡◌, ℕ, List, ◌++◌, [], reverse, flat_map, codes, Bool, cond, append_assoc, refl}
 use Rattle.std.proofs.lemmas.List.{reverse-reverse}
 use Rattle.std.proofs.lemmas.List.Sorted.{sum_by-IsPermutation, IsPermutation-reverse}
 use Rattle.pa_pac.specs.declared.event.Event.{Event}

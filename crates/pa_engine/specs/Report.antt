@@ -1,5 +1,5 @@
 -- The text that a run prints: its output, its end, what its log holds of each kind, and the lines of the log.
-use Rattle.std.specs.Prelude.{ℕ, List, [], ◌∷◌, ◌++◌, length, reverse, flat_map, count_by, Bool, true, false, not, ◌||◌, if◌then◌else◌, codes, decimal}
+use Rattle.std.specs.Prelude.{ℕ, List, [], ◌++◌, length, reverse, flat_map, count_by, Bool, true, false, not, ◌||◌, if◌then◌else◌, codes, decimal}
 use Rattle.std.specs.Fmt.{signed_decimal}
 use Rattle.std.specs.Int.{w64, to_be_bytes}
 use Rattle.hex.specs.Hex.{encode_lower}

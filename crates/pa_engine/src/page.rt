@@ -105,7 +105,7 @@ impl Page {
         ensures empty { OnOk result (self.new ≡ []) }
         ensures prefix { OnErr result (GrewByPrefix (K.written out.old) (K.written out.new) self.old) }
         ensures fault { OnErr result (Rose (K.faults out.old) (K.faults out.new)) }
-        ensures kept { K.faults out.old ≤ K.faults out.new }
+        ensures others { OnOk result (K.faults out.new ≡ K.faults out.old) }
     {
         write_all(out, self.as_slice())?;
         self.clear();

@@ -25,7 +25,7 @@ pub fn report<K: Sink>(ran: &Ran, short: bool, out: &mut K) -> Result<(), Failed
     ensures all { OnOk result (Grew (K.written out.old) (K.written out.new) (report_text ran.now.output ran.now.end ran.now.log.entries short)) }
     ensures prefix { OnErr result (GrewByPrefix (K.written out.old) (K.written out.new) (report_text ran.now.output ran.now.end ran.now.log.entries short)) }
     ensures fault { OnErr result (Rose (K.faults out.old) (K.faults out.new)) }
-    ensures kept { K.faults out.old ≤ K.faults out.new }
+    ensures others { OnOk result (K.faults out.new ≡ K.faults out.old) }
 {
     write_report(
         ran.output.as_slice(),
@@ -125,7 +125,7 @@ fn put_entry<K: Sink>(
     ensures all { OnOk result (Passed (K.written out.old) (K.written out.new) page.old page.new (shown_text short entry.now)) }
     ensures prefix { OnErr result (GrewByPrefix (K.written out.old) (K.written out.new) page.old) }
     ensures fault { OnErr result (Rose (K.faults out.old) (K.faults out.new)) }
-    ensures kept { K.faults out.old ≤ K.faults out.new }
+    ensures others { OnOk result (K.faults out.new ≡ K.faults out.old) }
 {
     if short && !tells_unsigned(entry) {
         return Ok(());
@@ -147,7 +147,7 @@ fn write_lines<K: Sink>(
     ensures all { OnOk result (Grew (K.written out.old) (K.written out.new) (page.old ++ flat_map (shown_text short) entries.now)) }
     ensures prefix { OnErr result (GrewByPrefix (K.written out.old) (K.written out.new) (page.old ++ flat_map (shown_text short) entries.now)) }
     ensures fault { OnErr result (Rose (K.faults out.old) (K.faults out.new)) }
-    ensures kept { K.faults out.old ≤ K.faults out.new }
+    ensures others { OnOk result (K.faults out.new ≡ K.faults out.old) }
 {
     for entry in entries {
         put_entry(page, entry, short, out)?;
@@ -166,7 +166,7 @@ pub(crate) fn write_report<K: Sink>(
     ensures all { OnOk result (Grew (K.written out.old) (K.written out.new) (report_text output.now end (reverse entries.now) short)) }
     ensures prefix { OnErr result (GrewByPrefix (K.written out.old) (K.written out.new) (report_text output.now end (reverse entries.now) short)) }
     ensures fault { OnErr result (Rose (K.faults out.old) (K.faults out.new)) }
-    ensures kept { K.faults out.old ≤ K.faults out.new }
+    ensures others { OnOk result (K.faults out.new ≡ K.faults out.old) }
 {
     let mut page = Page::new();
     page.push_output_line(output);

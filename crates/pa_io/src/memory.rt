@@ -48,7 +48,7 @@ impl Shelf for MemShelf {
     ghost use Rattle.pa_io.specs.Answer.{call_answer, Gives, OnMemory, UnlessMemory};
     ghost use Rattle.pa_io.specs.Calls.{next_count, is_to_fail};
     ghost use Rattle.pa_io.specs.Files.{file_of, tells};
-    ghost use Rattle.pa_io.specs.Memory.{shelf_faults};
+    ghost use Rattle.pa_io.specs.Memory.{shelf_faults, shelf_faults-lt};
     ghost use Rattle.pa_io.specs.Outside.{IsFile, IsLonger, OnFailed, OnLong, UnlessFailed, Rose};
 
     ghost faults = { shelf_faults };
@@ -92,6 +92,8 @@ impl Shelf for MemShelf {
         }
         answer
     }
+
+    ghost bounded = { shelf_faults-lt };
 }
 
 /// A source of bytes in memory, whose listed calls fail.
@@ -117,7 +119,7 @@ impl MemSource {
 impl Source for MemSource {
     ghost use Rattle.std.specs.Prelude.{Some};
     ghost use Rattle.pa_io.specs.Calls.{next_count, is_to_fail};
-    ghost use Rattle.pa_io.specs.Memory.{source_faults};
+    ghost use Rattle.pa_io.specs.Memory.{source_faults, source_faults-lt};
     ghost use Rattle.pa_io.specs.Outside.{Rose};
 
     ghost faults = { source_faults };
@@ -142,6 +144,8 @@ impl Source for MemSource {
         }
         Ok(move_bytes(&mut self.left, buffer))
     }
+
+    ghost bounded = { source_faults-lt };
 }
 
 /// A sink of bytes in memory, whose listed calls fail.
@@ -183,7 +187,7 @@ impl MemSink {
 impl Sink for MemSink {
     ghost use Rattle.std.specs.Prelude.{Some, is_err, not, ◌&&◌};
     ghost use Rattle.pa_io.specs.Calls.{next_count, is_to_fail};
-    ghost use Rattle.pa_io.specs.Memory.{sink_faults};
+    ghost use Rattle.pa_io.specs.Memory.{sink_faults, sink_faults-lt};
     ghost use Rattle.pa_io.specs.Outside.{Rose};
 
     ghost faults = { sink_faults };
@@ -203,7 +207,7 @@ impl Sink for MemSink {
 
         // What every sink says.
         ensures fault { OnErr result (Rose (sink_faults self.old) (sink_faults self.new)) }
-        ensures kept { sink_faults self.old ≤ sink_faults self.new }
+        ensures others { OnOk result (sink_faults self.new ≡ sink_faults self.old) }
     {
         if count_call(&mut self.calls, self.fails.as_slice()) {
             return Err(Failed);
@@ -215,4 +219,6 @@ impl Sink for MemSink {
         }
         Ok(count)
     }
+
+    ghost bounded = { sink_faults-lt };
 }

@@ -1,4 +1,4 @@
-ghost use Rattle.std.specs.Prelude.{◌≡◌, ◌<◌, ◌≤◌, ℕ, List, length, take, drop, Option, Some, IfOk, OnOk, OnErr, vec_len};
+ghost use Rattle.std.specs.Prelude.{◌≡◌, ◌<◌, ◌≤◌, ◌^◌, ℕ, List, [], length, take, drop, Option, Some, IfOk, OnOk, OnErr, vec_len};
 ghost use Rattle.std.specs.Io.KnownBytes.{Consumes, IsAtEnd};
 ghost use Rattle.pa_io.specs.Outside.{Told, IsFile, IsLonger, Rose, OnFailed, OnLong, UnlessFailed, Grew, Stayed, GrewByPrefix};
 
@@ -57,6 +57,8 @@ pub trait Shelf {
         // A fault is counted, and its name kept; any other answer leaves both.
         ensures fault { OnFailed result (Rose (faults self.old) (faults self.new) × (failed self.new ≡ Some name.now)) }
         ensures others { UnlessFailed result ((faults self.new ≡ faults self.old) × (failed self.new ≡ failed self.old)) };
+
+    ghost bounded: { (s : Self) → faults s < 2 ^ 64 };
 }
 
 /// Bytes that come one piece after another. The source counts its faults; the count never falls.
@@ -77,6 +79,8 @@ pub trait Source {
         // A fault is counted; any other answer leaves the count.
         ensures fault { OnErr result (Rose (faults self.old) (faults self.new)) }
         ensures others { OnOk result (faults self.new ≡ faults self.old) };
+
+    ghost bounded: { (s : Self) → faults s < 2 ^ 64 };
 }
 
 /// Takes bytes one piece after another. The sink counts its faults; the count never falls.
@@ -93,10 +97,12 @@ pub trait Sink {
         ensures appended { IfOk result (λ n. Grew (written self.old) (written self.new) (take n bytes.now)) }
         ensures stayed { OnErr result (Stayed (written self.old) (written self.new)) }
 
-        // A fault is counted, and the count never falls.
+        // A fault is counted; any other answer leaves the count.
         ensures fault { OnErr result (Rose (faults self.old) (faults self.new)) }
         ensures nothing { IfOk result (λ n. n ≡ 0 → 0 < length bytes.now → Rose (faults self.old) (faults self.new)) }
-        ensures kept { faults self.old ≤ faults self.new };
+        ensures others { IfOk result (λ n. (n ≡ 0 → bytes.now ≡ []) → faults self.new ≡ faults self.old) };
+
+    ghost bounded: { (s : Self) → faults s < 2 ^ 64 };
 }
 
 /// Writes all the bytes, in as many pieces as the sink takes them. It gives up where the sink fails or takes nothing.
@@ -104,7 +110,7 @@ pub fn write_all<K: Sink>(out: &mut K, bytes: &[u8]) -> Result<(), Failed>
     ensures all { OnOk result (Grew (K.written out.old) (K.written out.new) bytes.now) }
     ensures prefix { OnErr result (GrewByPrefix (K.written out.old) (K.written out.new) bytes.now) }
     ensures fault { OnErr result (Rose (K.faults out.old) (K.faults out.new)) }
-    ensures kept { K.faults out.old ≤ K.faults out.new }
+    ensures others { OnOk result (K.faults out.new ≡ K.faults out.old) }
 {
     let mut rest = bytes;
     while !rest.is_empty() {

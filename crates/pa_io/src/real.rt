@@ -1,4 +1,4 @@
-ghost use Rattle.std.specs.Prelude.{◌≡◌, ◌<◌, ◌≤◌, length, take, drop, IfOk, IfSome, vec_len};
+ghost use Rattle.std.specs.Prelude.{◌≡◌, ◌<◌, ◌≤◌, ◌^◌, length, take, drop, IfOk, IfSome, vec_len};
 ghost use Rattle.std.specs.Io.KnownBytes.{Consumes, IsAtEnd};
 ghost use Rattle.pa_io.specs.Outside.{OnLong};
 
@@ -19,6 +19,7 @@ pub struct DiskShelf {
     pub faults: u64,
     /// The name of the last call that answered `Failed`.
     pub failed: Option<Name>,
+    ghost counted: { faults < 2 ^ 64 },
 }
 
 impl DiskShelf {
@@ -57,6 +58,8 @@ impl Shelf for DiskShelf {
         }
         answer
     }
+
+    ghost bounded = { λ s. s.counted };
 }
 
 /// All the bytes up to the end, where they are at most `limit`. Each turn but the last takes a byte at least, so there are
@@ -102,6 +105,7 @@ pub struct StdinSource {
     input: Stdin,
     /// The faults so far.
     pub faults: u64,
+    ghost counted: { faults < 2 ^ 64 },
 }
 
 impl StdinSource {
@@ -130,6 +134,8 @@ impl Source for StdinSource {
         }
         answer
     }
+
+    ghost bounded = { λ s. s.counted };
 }
 
 /// Standard output. Nothing is told of its bytes.
@@ -138,6 +144,7 @@ pub struct StdoutSink {
     output: Stdout,
     /// The faults so far.
     pub faults: u64,
+    ghost counted: { faults < 2 ^ 64 },
 }
 
 impl StdoutSink {
@@ -166,4 +173,6 @@ impl Sink for StdoutSink {
         }
         answer
     }
+
+    ghost bounded = { λ s. s.counted };
 }

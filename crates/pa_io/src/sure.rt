@@ -23,6 +23,7 @@ impl SureShelf {
 }
 
 impl Shelf for SureShelf {
+    ghost use Rattle.std.proofs.Common.{lit<};
     ghost use Rattle.std.specs.Prelude.{None};
     ghost use Rattle.pa_io.specs.Files.{tells_all};
 
@@ -37,6 +38,8 @@ impl Shelf for SureShelf {
         let file = find_file(self.files.as_slice(), name.as_bytes());
         copy_file(alloc, Some(file.unwrap_or(&[])), limit)
     }
+
+    ghost bounded = { λ _. lit< tt };
 }
 
 /// A source of bytes in memory that never fails.
@@ -56,6 +59,7 @@ impl SureSource {
 }
 
 impl Source for SureSource {
+    ghost use Rattle.std.proofs.Common.{lit<};
     ghost use Rattle.std.specs.Prelude.{Some};
 
     ghost faults = { λ _. 0 };
@@ -69,6 +73,8 @@ impl Source for SureSource {
     {
         Ok(move_bytes(&mut self.left, buffer))
     }
+
+    ghost bounded = { λ _. lit< tt };
 }
 
 /// A sink of bytes in memory that never fails. Where it has no memory to grow, the bytes of that call are lost, and from
@@ -91,6 +97,7 @@ impl SureSink {
 }
 
 impl Sink for SureSink {
+    ghost use Rattle.std.proofs.Common.{lit<};
     ghost use Rattle.std.specs.Prelude.{Some, None};
 
     ghost faults = { λ _. 0 };
@@ -107,4 +114,6 @@ impl Sink for SureSink {
         }
         Ok(bytes.len())
     }
+
+    ghost bounded = { λ _. lit< tt };
 }

@@ -68,7 +68,7 @@ pub fn write_line<K: Sink>(exit: Exit, out: &mut K) -> Result<(), Failed>
     ensures all { OnOk result (Grew (K.written out.old) (K.written out.new) (line_of exit)) }
     ensures prefix { OnErr result (GrewByPrefix (K.written out.old) (K.written out.new) (line_of exit)) }
     ensures fault { OnErr result (Rose (K.faults out.old) (K.faults out.new)) }
-    ensures kept { K.faults out.old ≤ K.faults out.new }
+    ensures others { OnOk result (K.faults out.new ≡ K.faults out.old) }
 {
     line(exit).flush(out)
 }

@@ -126,6 +126,7 @@ pub fn paclab<H: Shelf, S: Source, K: Sink, P: Pac>(
     ensures cut { OnWriteFault result (IsSomeAnd (file_to_run (map string_bytes words.now)) (λ name.
         Prints (H.told shelf.old name) (P.code host.now) (GrewByPrefix (K.written out.old) (K.written out.new)))) }
     ensures write_fault { OnWriteFault result (Rose (K.faults out.old) (K.faults out.new)) }
+    ensures no_fault { OnDone result (K.faults out.new ≡ K.faults out.old) }
     ensures line { OnStop result (¬ Rose (K.faults out.old) (K.faults out.new)
         → Grew (K.written out.old) (K.written out.new) (line_of result)) }
     ensures part { OnStop result (GrewByPrefix (K.written out.old) (K.written out.new) (line_of result)) }

@@ -1,5 +1,5 @@
 -- The code of a program of the first form, and the machine that begins to run it.
-use Rattle.std.specs.Prelude.{ℕ, ◌+◌, ◌*◌, ◌/◌, ◌%◌, List, [], ◌∷◌, ◌++◌, length, map, replicate, true, false, None, pos}
+use Rattle.std.specs.Prelude.{ℕ, ◌+◌, ◌*◌, ◌/◌, ◌%◌, List, [], ◌∷◌, ◌++◌, length, map, replicate, true, false, pos}
 use Rattle.std.specs.List.{flat_map}
 use Rattle.std.specs.Int.{w32, to_le_bytes}
 use Rattle.pa_a64.specs.declared.instr.Instr.{Instr}
@@ -12,6 +12,7 @@ use Rattle.pa_a64.specs.declared.instr.StackOp.TheVariants.{Retab, Pacibsp}
 use Rattle.pa_a64.specs.declared.instr.ExceptionOp.TheVariants.{Svc, Brk}
 use Rattle.pa_a64.specs.Decoding.{encoded}
 use Rattle.pa_mem.specs.Memory.{Region}
+use Rattle.pa_object.specs.Machine as machine
 use Rattle.pa_object.specs.Machine.{Machine}
 use Rattle.pa_straight.specs.declared.source.Straight.{Straight}
 
@@ -76,17 +77,6 @@ memory_of words =
     record { base = base; bytes = flat_map (to_le_bytes w32) words; reads = true; writes = false; runs = true }
     ∷ record { base = 0x1_6F80_0000; bytes = blank 0x80_0000; reads = true; writes = true; runs = false } ∷ []
 
--- at `start`, with zeros in all registers and the stack empty
+-- at `start`, the stack empty
 abbrev pub begun : List ℕ → Machine
-begun words = record {
-  registers = replicate 31 0;
-  sp = 0x1_7000_0000;
-  flags = record { negative = false; zero = false; carry = false; overflow = false };
-  memory = memory_of words;
-  pc = base;
-  count = 0;
-  input = [];
-  output = [];
-  log = [];
-  ended = None;
-}
+begun words = machine.begun (memory_of words) [] base 0x1_7000_0000 []

@@ -12,4 +12,4 @@ returns-then-taken-eq0-clause-prefix g c =
 
 pub loop-rest-preserved : goal.loop-rest-preserved
 loop-rest-preserved g c =
-    (Written-more _ _ _ _ _ _ c.loop-rest.invariant.0 c.in_ok-taken.ensures.appended, omega (arith, c.in_ok-taken.ensures.kept))
+    (Written-more _ _ _ _ _ _ c.loop-rest.invariant.0 c.in_ok-taken.ensures.appended, search (rules, arith))

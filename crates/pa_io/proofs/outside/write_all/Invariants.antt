@@ -1,11 +1,11 @@
-use Rattle.std.proofs.Common.{◌≤◌, length}
+use Rattle.std.proofs.Common.{◌≡◌, length}
 use Rattle.pa_io.proofs.Growth.{Written}
 use Rattle.pa_io.proofs.outside.write_all.Given as goal
 
 abbrev pub invariant-loop-rest : goal.invariant-loop-rest
 invariant-loop-rest g l =
     Written (g.K.Sink.written l.initial.out) (g.K.Sink.written l.out) l.bytes l.rest
-    × (g.K.Sink.faults l.initial.out ≤ g.K.Sink.faults l.out)
+    × (g.K.Sink.faults l.out ≡ g.K.Sink.faults l.initial.out)
 
 abbrev pub decreases-loop-rest : goal.decreases-loop-rest
 decreases-loop-rest g l = length l.rest
