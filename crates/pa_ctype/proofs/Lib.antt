@@ -2,5 +2,6 @@ pub mod Depth
 pub mod Growth
 pub mod Kept
 pub mod Laws
+pub mod Objects
 pub mod Sound
 pub mod Views
