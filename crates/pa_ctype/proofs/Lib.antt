@@ -1,4 +1,5 @@
 pub mod Depth
+pub mod Examples
 pub mod Growth
 pub mod Kept
 pub mod Laws
