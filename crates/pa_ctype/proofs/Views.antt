@@ -50,3 +50,6 @@ tree_of t = ap type_tree (sym (roll-out-CType t)) ∙ tree_type (out-CType t).co
 pub layout_by_form : (structs : ℕ → Option Layout) (t : CType) → layout_by structs (type_tree t) ≡ form_layout_by structs (form_tree (out-CType t).form)
 unfolding layout_by form_layout_by
 layout_by_form structs t = ap (layout_by structs) (tree_of t)
+
+pub rolled : (t : CType) → roll-CType (record { constant = (out-CType t).constant; form = (out-CType t).form }) ≡ t
+rolled t = roll-out-CType t

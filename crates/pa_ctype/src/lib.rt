@@ -1,6 +1,7 @@
 //! Types of C11 as the compiler knows them, with the layout of objects, and what values, objects and traces of C are.
 #![tactic(auto)]
 
+mod copy;
 mod ctype;
 mod sizes;
 mod structs;

@@ -30,6 +30,12 @@ enum Shape {
     Functions,
 }
 
+const SCHEMA: Schema = Schema {
+    key: Key::IA,
+    addr: true,
+    disc: 42,
+};
+
 fn plain(form: Form) -> CType {
     CType {
         constant: false,
@@ -75,17 +81,12 @@ fn function(alloc: Global) -> Result<CType, AllocError> {
 }
 
 fn made(alloc: Global, shape: Shape) -> Result<CType, AllocError> {
-    let schema = Schema {
-        key: Key::IA,
-        addr: true,
-        disc: 42,
-    };
     match shape {
         Shape::Void => Ok(plain(Form::Void)),
         Shape::Bool => Ok(plain(Form::Bool)),
         Shape::Int(bits) => Ok(int(bits)),
         Shape::Pointer => pointer(alloc, plain(Form::Void), None),
-        Shape::Qualified => pointer(alloc, function(alloc)?, Some(schema)),
+        Shape::Qualified => pointer(alloc, function(alloc)?, Some(SCHEMA)),
         Shape::Function => function(alloc),
         Shape::Struct(id) => Ok(struct_type(id)),
         Shape::Ints(bits, count) => array(alloc, int(bits), Some(count)),
@@ -329,5 +330,32 @@ fn a_struct_without_a_body_has_none(rt: HostRuntime) -> Result<(), Fail> {
     assert_eq!(rt; by_calls(&structs, &t), None);
     let name = named(rt.alloc(), "a")?;
     assert_eq!(rt; member_at(&structs, 9, &name), None);
+    Ok(())
+}
+
+/// Whether the type is the qualified pointer of the tables.
+fn is_qualified(t: &CType) -> bool {
+    let Form::Pointer { to, schema } = &t.form else {
+        return false;
+    };
+    let Form::Function { params, result } = &to.get().form else {
+        return false;
+    };
+    let is_int =
+        |t: &CType, width: u8| matches!(&t.form, Form::Int { bits, signed: true } if *bits == width);
+    *schema == Some(SCHEMA)
+        && params.len() == 1
+        && params.get(0).is_some_and(|t| is_int(t, 64))
+        && is_int(result.get(), 32)
+}
+
+#[test]
+fn a_copy_is_as_its_type(rt: HostRuntime) -> Result<(), Fail> {
+    let t = made(rt.alloc(), Shape::Qualified)?;
+    let copy = t.copy(rt.alloc())?;
+    assert!(rt; is_qualified(&t) && is_qualified(&copy));
+    let rows = made(rt.alloc(), Shape::Rows(32, 3, 2))?.copy(rt.alloc())?;
+    let structs = Structs::new(rt.alloc());
+    assert_eq!(rt; by_calls(&structs, &rows), Some((24, 4)));
     Ok(())
 }
