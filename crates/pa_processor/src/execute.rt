@@ -23,6 +23,7 @@ impl Processor {
         }
     }
 
+    #[tactic(auto, unfolding(pa_object::specs::Run::step))]
     fn carries_out<P: Pac>(&mut self, p: &P) -> Result<(), Trap>
         requires count { self.old.machine.count + 1 < 2 ^ 32 }
         requires log { length self.old.machine.log + 2 ≤ self.old.log_limit }
@@ -30,8 +31,10 @@ impl Processor {
         ensures { StepsOrTraps (P.code p.now) self.old result self.new }
     {
         let word = self.fetch()?;
-        let instr = decode(word).ok_or(Trap::BadWord)?;
-        self.execute(p, instr)
+        match decode(word) {
+            Some(instr) => self.execute(p, instr),
+            None => Err(Trap::BadWord),
+        }
     }
 
     fn execute<P: Pac>(&mut self, p: &P, instr: Instr) -> Result<(), Trap>
