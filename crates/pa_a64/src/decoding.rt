@@ -74,6 +74,7 @@ macro_rules! part {
 }
 
 // Data processing with an immediate.
+#[inline(always)]
 fn immediate(word: u64) -> Option<Instr>
     requires { word < 2 ^ 32 }
     ensures { result ≡ decoded_among immediate_rows word }
@@ -82,6 +83,7 @@ fn immediate(word: u64) -> Option<Instr>
 }
 
 // Data processing with registers.
+#[inline(always)]
 fn register(word: u64) -> Option<Instr>
     requires { word < 2 ^ 32 }
     ensures { result ≡ decoded_among register_rows word }
@@ -90,6 +92,7 @@ fn register(word: u64) -> Option<Instr>
 }
 
 // Loads and stores.
+#[inline(always)]
 fn memory(word: u64) -> Option<Instr>
     requires { word < 2 ^ 32 }
     ensures { result ≡ decoded_among memory_rows word }
@@ -98,6 +101,7 @@ fn memory(word: u64) -> Option<Instr>
 }
 
 // Branches, exceptions and hints.
+#[inline(always)]
 fn branch(word: u64) -> Option<Instr>
     requires { word < 2 ^ 32 }
     ensures { result ≡ decoded_among branch_rows word }
@@ -106,6 +110,7 @@ fn branch(word: u64) -> Option<Instr>
 }
 
 // Bits 28 to 25 name the part, as in the manual's first table of the A64 encoding.
+#[inline(always)]
 fn by_part(word: u64) -> Option<Instr>
     requires { word < 2 ^ 32 }
     ensures { result ≡ decoded word }
@@ -120,6 +125,7 @@ fn by_part(word: u64) -> Option<Instr>
 }
 
 /// The instruction of a word, or None exactly where the word is of no row.
+#[inline(always)]
 pub fn decode(word: u32) -> Option<Instr>
     ensures instruction { result ≡ decoded word }
     ensures none { IsNone result ↔ ((r : Row) → decoded_by r word ≡ None) }

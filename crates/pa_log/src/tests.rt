@@ -1,4 +1,5 @@
 use crate::{Entry, Event, Log, Way, When};
+use pa_num::Memory;
 use pa_pac::Key;
 
 const RAW: u64 = 0x1_0000_4010;
@@ -48,4 +49,23 @@ fn marks_takes_and_keeps_the_order(rt: HostRuntime) {
             event: land
         })
     );
+}
+
+#[test]
+fn stays_where_memory_is_wanting(rt: HostRuntime) {
+    let mut log = Log::new(rt.alloc());
+    assert_eq!(rt; log.reserve(3), Ok(()));
+    log.push_land(When::Step(1), Way::Jump, RAW);
+    let spare = log.spare();
+    // More bytes than there are addresses.
+    assert_eq!(rt; log.reserve(1 << 60), Err(Memory));
+    assert_eq!(rt; log.spare(), spare);
+    let event = Event::Land {
+        way: Way::Jump,
+        target: RAW,
+    };
+    let when = When::Step(1);
+    assert_eq!(rt; log.entries(), &[Entry { when, event }][..]);
+    log.push_sign(When::Step(2), Key::IA, MODIFIER, RAW, 0);
+    assert!(rt; log.push_take(When::Step(3), Key::IA, MODIFIER, RAW));
 }

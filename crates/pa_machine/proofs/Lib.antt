@@ -1,4 +1,4 @@
+pub mod Regions
 pub mod Room
 pub mod Runs
-pub mod Stores
 pub mod Walks

@@ -1,10 +1,10 @@
 -- How much a step prints and logs at most.
-use Rattle.std.proofs.Common.{◌≡◌, ℕ, ◌+◌, ◌≤◌, List, length, ap, ◌∙◌, arith, length-append}
+use Rattle.std.proofs.Common.{ℕ, ◌+◌, ◌≤◌, List, length, ap, ◌∙◌, arith, length-append}
 use Rattle.pa_pac.specs.Log.{Log}
 use Rattle.pa_pac.specs.Signing.{Code}
 use Rattle.pa_object.specs.Machine.{Machine}
 use Rattle.pa_object.specs.Run.{step}
-use Rattle.pa_object.proofs.Growth.{OutputGrows, LogGrows, Leaves, step_leaves}
+use Rattle.pa_object.proofs.Growth.{OutputGrows, LogGrows, step_leaves}
 
 output_room : (n : ℕ) (old new : List ℕ) → OutputGrows n old new → length new ≤ length old + n
 output_room n old new g = let e = ap length g.grown ∙ length-append old g.bytes in let few = g.few in omega arith

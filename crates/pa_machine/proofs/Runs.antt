@@ -1,6 +1,5 @@
 -- A run by its steps.
-use Rattle.std.proofs.Common.{◌≡◌, ℕ, zero, suc, ◌+◌, ◌-◌, ◌<◌, ◌≤◌, max, List, true, map, Option, Some, None, refl, sym, ap, subst, ◌∙◌, arith}
-use Rattle.pa_mem.specs.Memory.{Region}
+use Rattle.std.proofs.Common.{◌≡◌, ℕ, ◌+◌, ◌-◌, ◌≤◌, max, List, true, map, Option, Some, None, refl, sym, ap, subst, ◌∙◌, arith}
 use Rattle.pa_mem.proofs.Bytes.{outline}
 use Rattle.pa_pac.specs.Signing.{Code}
 use Rattle.pa_object.specs.declared.end.End.{End}
@@ -8,8 +7,7 @@ use Rattle.pa_object.specs.declared.script.Item.{Item}
 use Rattle.pa_object.specs.Machine.{Machine}
 use Rattle.pa_object.specs.Run.{Script, step, applied_all, advance, advance_by, run}
 use Rattle.pa_object.specs.Script.{all_fit, ordered_from}
-use Rattle.pa_object.proofs.Growth.{IsFine, Wrote, applied_all_wrote, step_leaves, advance-goes, advance-count, advance_by-ended, advance_by-add, advance_by-later, all_fit-outlines}
-use Rattle.pa_machine.specs.declared.went.Went.{Went}
+use Rattle.pa_object.proofs.Growth.{IsFine, applied_all_wrote, step_leaves, advance-goes, advance-count, advance_by-ended, advance_by-add, advance_by-later, all_fit-outlines}
 use Rattle.pa_machine.specs.declared.went.Went.TheVariants.{Goes, Ended}
 use Rattle.pa_machine.specs.Items.{IsRest}
 use Rattle.pa_machine.specs.Running.{Running, went}

@@ -1,3 +1,2 @@
-pub mod Processor
 pub mod Running
 pub mod Items

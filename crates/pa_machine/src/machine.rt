@@ -7,13 +7,12 @@ ghost use Rattle.pa_object.specs.Script.{fits_item, all_fit, ordered_from};
 ghost use Rattle.pa_machine.specs.Items.{IsRest};
 ghost use Rattle.pa_machine.specs.Running.{went};
 
-use crate::loaded::Loaded;
-use crate::processor::Processor;
 use crate::went::Went;
 use pa_log::Log;
 use pa_num::{Bytes, Memory};
 use pa_object::{End, Item};
 use pa_pac::Pac;
+use pa_processor::{Loaded, Processor};
 use std::alloc::Global;
 use std::marker::Model;
 

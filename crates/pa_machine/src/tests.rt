@@ -1,69 +1,17 @@
-ghost use Rattle.std.specs.Prelude.{◌≡◌, IfOk, [], None};
+ghost use Rattle.std.specs.Prelude.{◌≡◌, IfOk, length};
 
-use crate::arithmetic::{asr, bitfield, lsl, quotient, with_part};
-use crate::flags::{flags_of_difference, meets};
 use crate::{End, Loaded, Machine, Trap};
-use pa_a64::{BitfieldOp, DivideOp};
 use pa_log::Log;
 use pa_mem::{Rights, Space};
 use pa_num::{Bytes, Memory};
 use pa_pac::{Entry, Event, Key, Way, When, ZeroPac};
 use std::alloc::Global;
 
-const SMALLEST: u64 = 1 << 63;
-
-#[test]
-fn computes_at_the_borders(rt: HostRuntime) {
-    let rows = [
-        (
-            bitfield(BitfieldOp::Sbfm, 0x80, 0, 7),
-            0xFFFF_FFFF_FFFF_FF80,
-        ),
-        (bitfield(BitfieldOp::Ubfm, 0x80, 0, 7), 0x80),
-        (bitfield(BitfieldOp::Sbfm, 0x1F0, 4, 63), 0x1F),
-        // The low four bits, moved up by eight.
-        (
-            bitfield(BitfieldOp::Sbfm, 0x18, 56, 3),
-            0xFFFF_FFFF_FFFF_F800,
-        ),
-        (bitfield(BitfieldOp::Ubfm, 0x18, 56, 3), 0x800),
-        (quotient(DivideOp::Sdiv, SMALLEST, u64::MAX), SMALLEST),
-        (quotient(DivideOp::Sdiv, u64::MAX - 6, 2), u64::MAX - 2),
-        (quotient(DivideOp::Sdiv, 7, 0), 0),
-        (quotient(DivideOp::Udiv, u64::MAX, 2), SMALLEST - 1),
-        (quotient(DivideOp::Udiv, 7, 0), 0),
-        (lsl(3, 63), SMALLEST),
-        (lsl(3, 64), 3),
-        (asr(SMALLEST, 63), u64::MAX),
-        (asr(SMALLEST, 64), SMALLEST),
-        (
-            with_part(0x1111_2222_3333_4444, 2, 0xABCD),
-            0x1111_ABCD_3333_4444,
-        ),
-    ];
-    for (result, expected) in rows {
-        assert_eq!(rt; result, expected);
-    }
-}
-
-// Numbers, and the conditions that their difference meets, a bit for each.
-#[test]
-fn meets_conditions(rt: HostRuntime) {
-    let rows = [
-        (0, 0, 0xE6A5),
-        (0, 1, 0xEA9A),
-        (5, 3, 0xD5A6),
-        (SMALLEST, 1, 0xE966),
-        (SMALLEST - 1, u64::MAX, 0xD65A),
-        (u64::MAX, 1, 0xE996),
-    ];
-    for (x, y, expected) in rows {
-        let flags = flags_of_difference(x, y);
-        for condition in 0..16u8 {
-            let held = expected >> condition & 1 == 1;
-            assert_eq!(rt; meets(flags, condition), held, "{x} {y} {condition}");
-        }
-    }
+fn sixteen(alloc: Global) -> Result<Bytes, Memory>
+    ensures { IfOk result (λ bytes. length bytes ≡ 16) }
+{
+    let bytes = Bytes::from_slice(alloc, &[0; 16])?;
+    Ok(bytes)
 }
 
 // Sixteen bytes to read and write at 0x2000, sixteen more right behind them, and these words at 0x4000.
@@ -78,8 +26,8 @@ fn space(alloc: Global, words: &[u32]) -> Result<Space, Memory> {
         code.extend_from_slice(&word.to_le_bytes())?;
     }
     let mut space = Space::new(alloc);
-    space.add(0x2000, Bytes::from_slice(alloc, &[0; 16])?, data)?;
-    space.add(0x2010, Bytes::from_slice(alloc, &[0; 16])?, data)?;
+    space.add(0x2000, sixteen(alloc)?, data)?;
+    space.add(0x2010, sixteen(alloc)?, data)?;
     space.add(0x4000, code, Rights::RUN)?;
     Ok(space)
 }
@@ -184,4 +132,24 @@ fn calls_by_x30(rt: HostRuntime) {
         machine.log().entries(),
         &[Entry { when, event: take }, Entry { when, event: land }][..]
     );
+}
+
+// Room for all the steps that there can be is more than memory holds.
+#[test]
+fn stays_where_memory_is_wanting(rt: HostRuntime) {
+    // Prints A, signs x30, and exits.
+    let words = [0xD280_0820, 0xD400_0021, 0xD503_237F, 0xD400_0061];
+    let mut machine = machine(rt.alloc(), &words, &ZeroPac).expect(&rt, "ample memory");
+    assert_eq!(rt; machine.run(&[], 3), Ok(End::Bound));
+    assert_eq!(rt; machine.reserve(u32::MAX), Err(Memory));
+    let event = Event::Sign {
+        key: Key::IB,
+        modifier: 0x2010,
+        raw: 0,
+        signed: 0,
+    };
+    let when = When::Step(2);
+    assert_eq!(rt; machine.log().entries(), &[Entry { when, event }][..]);
+    assert_eq!(rt; machine.output(), &b"A"[..]);
+    assert_eq!(rt; machine.run(&[], 100), Ok(End::Exit(65)));
 }

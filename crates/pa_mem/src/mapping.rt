@@ -38,10 +38,12 @@ impl Mapping {
         ensures { result ≡ offers rights at count self.now }
     {
         let length = self.bytes.len() as u64;
-        self.base <= at
-            && at - self.base <= length
-            && count <= length - (at - self.base)
-            && self.rights.include(rights)
+        match at.checked_sub(self.base) {
+            Some(start) => {
+                start <= length && count <= length - start && self.rights.include(rights)
+            }
+            None => false,
+        }
     }
 
     /// Puts these bytes in the place of those from `start` on.

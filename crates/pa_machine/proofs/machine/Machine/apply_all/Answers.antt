@@ -1,4 +1,4 @@
-use Rattle.pa_machine.proofs.Walks.{walked-none, walked-fits, walked-item, Over, over-none, over-other}
+use Rattle.pa_machine.proofs.Walks.{walked-none, walked-fits, walked-item, over-none, over-other}
 use Rattle.pa_machine.proofs.machine.Machine.apply_all.Goals as goal
 
 pub loop-item-init : goal.loop-item-init

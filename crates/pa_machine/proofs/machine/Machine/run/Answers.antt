@@ -1,6 +1,6 @@
-use Rattle.std.proofs.Common.{◌≡◌, ℕ, ◌+◌, ◌-◌, ◌<◌, ◌≤◌, sym, ap, ◌∙◌, arith}
+use Rattle.std.proofs.Common.{◌+◌, ◌≤◌, sym, ap, ◌∙◌, arith}
 use Rattle.pa_object.specs.Machine.{Machine}
-use Rattle.pa_machine.proofs.Runs.{run_reached, run_ended, run_later, went-Goes, went-Ended, Reached, reached-none, written-goes, written-count, stepped-here, stepped-reached}
+use Rattle.pa_machine.proofs.Runs.{run_reached, run_ended, run_later, went-Goes, went-Ended, reached-none, written-goes, written-count, stepped-here, stepped-reached}
 use Rattle.pa_machine.proofs.machine.Machine.run.Goals as goal
 
 pub returns-in-Some-clause-machine : goal.returns-in-Some-clause-machine

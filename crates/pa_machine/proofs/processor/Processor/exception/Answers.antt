@@ -1,4 +1,0 @@
-use Rattle.pa_machine.proofs.processor.Processor.exception.Goals as goal
-
-pub returns-in-Svc : goal.returns-in-Svc
-returns-in-Svc c = rw c.in-Svc.is c.system_call.ensures
