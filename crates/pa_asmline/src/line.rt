@@ -38,6 +38,7 @@ fn named(text: Option<&[u8]>) -> Option<&[u8]>
 
 /// What a line of a text says, without its line feed. No text is two lines.
 pub fn read_line(text: &[u8]) -> Line<'_>
+    ensures value { shown result ≡ reading.line text.now }
     ensures line { lines.IsLine (shown result) text.now }
     ensures one { lines.IsOne text.now }
 {

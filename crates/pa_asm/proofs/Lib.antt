@@ -1,0 +1,4 @@
+pub mod Cuts
+pub mod Going
+pub mod Kept
+pub mod Once
