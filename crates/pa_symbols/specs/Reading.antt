@@ -6,10 +6,12 @@ use Rattle.pa_num.specs.declared.fault.ImageRule.TheVariants.{H5}
 use Rattle.pa_layout.specs.declared.checks.Flaw.{Flaw}
 use Rattle.pa_layout.specs.Fields.{number}
 use Rattle.pa_layout.specs.Flaws.{Check, Holds, first, flaw_of, ◌then◌}
-use Rattle.pa_layout.specs.Names.{is_zero, name_length, has_end}
+use Rattle.pa_layout.specs.Names.{is_zero, name_length}
 use Rattle.pa_object.specs.declared.object.Mark.{Mark}
+use Rattle.pa_symbols.specs.declared.entry.Entry.{Entry}
 use Rattle.pa_symbols.specs.declared.places.TextAt.{TextAt}
 use Rattle.pa_symbols.specs.declared.places.SymbolsAt.{SymbolsAt}
+use Rattle.pa_symbols.specs.Names.{name_due}
 use Rattle.pa_symbols.specs.Symbols.{Text, kind_of}
 
 -- ---- what entry k tells
@@ -29,6 +31,15 @@ description_in symbols k = number 2 (16 * k + 6) symbols
 -- n_value
 abbrev pub address_in : List ℕ → ℕ → ℕ
 address_in symbols k = number 8 (16 * k + 8) symbols
+
+-- all four
+abbrev pub entry_in : List ℕ → ℕ → Entry
+entry_in symbols k = record {
+  place = place_in symbols k;
+  kind = kind_in symbols k;
+  description = description_in symbols k;
+  address = address_in symbols k;
+}
 
 abbrev pub is_public : List ℕ → ℕ → Bool
 is_public symbols k = kind_in symbols k == kind_of true
@@ -62,9 +73,7 @@ due_place symbols strings (suc k) = place_in symbols k + (name_length (text_in s
 
 -- the name is where it has to be, isn't empty and has its end
 abbrev pub name_stands : List ℕ → List ℕ → ℕ → Bool
-name_stands symbols strings k =
-    let text = text_in symbols strings k in
-    (place_in symbols k == due_place symbols strings k) && (not (name_length text == 0) && has_end text)
+name_stands symbols strings k = name_due strings (place_in symbols k) (due_place symbols strings k)
 
 abbrev pub is_kind : ℕ → Bool
 is_kind kind = (kind == kind_of true) || (kind == kind_of false)
@@ -92,10 +101,8 @@ is_first_public symbols strings k =
 
 unfoldable pub entry_stands : TextAt → List ℕ → List ℕ → ℕ → Bool
 entry_stands text symbols strings k =
-    is_kind (kind_in symbols k)
-    && ((description_in symbols k == 0)
-    && (is_of_word text (address_in symbols k)
-    && (ascends_at symbols k && (name_stands symbols strings k && is_first_public symbols strings k))))
+    (is_kind (kind_in symbols k) && ((description_in symbols k == 0) && is_of_word text (address_in symbols k)))
+    && (ascends_at symbols k && (name_stands symbols strings k && is_first_public symbols strings k))
 
 -- ---- the first flaw
 
