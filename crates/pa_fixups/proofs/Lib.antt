@@ -1,4 +1,5 @@
 pub mod Cuts
+pub mod Fitting
 pub mod Parts
 pub mod SlotLaws
 pub mod Trip

@@ -189,6 +189,66 @@ with_slots-without_slots len (fix ∷ fixes) page e w =
     let after : length (put_at fix.at part page) ≡ len = length-put_at fix.at part page (omega arith) ∙ e in
     ap (λ (x : List ℕ). with_slots x fixes) (one ∙ ap (λ (x : List ℕ). without_slots x fixes) two) ∙ with_slots-without_slots len fixes (put_at fix.at part page) after w.2
 
+-- a part below the slots may be put before they are written
+with_put : (a len : ℕ) (p page : List ℕ) (fixes : List Fix) → length page ≡ len → length p ≡ 8 → AreWritable len fixes → Above a fixes → put_at a p (with_slots page fixes) ≡ with_slots (put_at a p page) fixes
+unfolding with_slots
+with_put a len p page [] e l w above = refl
+with_put a len p page (fix ∷ fixes) e l w above =
+    let part = little_bytes 8 (word_of fix fixes) in
+    let k = length-word (word_of fix fixes) in
+    let i = w.0.inside in
+    with_put a len p (put_at fix.at part page) fixes (length-put_at fix.at part page (omega arith) ∙ e) l w.2 above.1
+    ∙ ap (λ (x : List ℕ). with_slots x fixes) (puts_commute a fix.at p part page (omega (arith, above.0)) (omega arith))
+
+-- to write slots before they are erased changes nothing
+pub without_slots-with_slots : (len : ℕ) (fixes : List Fix) (page : List ℕ) → length page ≡ len → AreWritable len fixes → without_slots (with_slots page fixes) fixes ≡ without_slots page fixes
+unfolding with_slots without_slots
+without_slots-with_slots len [] page e w = refl
+without_slots-with_slots len (fix ∷ fixes) page e w =
+    let part = little_bytes 8 (word_of fix fixes) in
+    let l = length-word (word_of fix fixes) in
+    let i = w.0.inside in
+    let long : length (put_at fix.at part page) ≡ len = length-put_at fix.at part page (omega arith) ∙ e in
+    let one = with_put fix.at len zeros8 (put_at fix.at part page) fixes long refl w.2 (rising_above fix fixes len w) in
+    let two = put_twice fix.at zeros8 part page l (omega arith) in
+    let after : length (put_at fix.at zeros8 page) ≡ len = length-put_at fix.at zeros8 page (omega arith) ∙ e in
+    ap (λ (x : List ℕ). without_slots x fixes) (one ∙ ap (λ (x : List ℕ). with_slots x fixes) two) ∙ without_slots-with_slots len fixes (put_at fix.at zeros8 page) after w.2
+
+-- to erase slots that are zero changes nothing
+abbrev pub AreClear : List ℕ → List Fix → Type 0
+AreClear page [] = Unit {0}
+AreClear page (fix ∷ fixes) = (word_at page fix.at ≡ 0) × AreClear page fixes
+
+-- erased slots leave a word below them alone
+erased_below : (below len : ℕ) (fixes : List Fix) (page : List ℕ) → length page ≡ len → AreWritable len fixes → Above below fixes → word_at (without_slots page fixes) below ≡ word_at page below
+unfolding without_slots
+erased_below below len [] page e w a = refl
+erased_below below len (fix ∷ fixes) page e w a =
+    let i = w.0.inside in
+    erased_below below len fixes (put_at fix.at zeros8 page) (length-put_at fix.at zeros8 page (omega arith) ∙ e) w.2 a.1
+    ∙ put_below fix.at below zeros8 page (omega arith) a.0
+
+-- erased slots are zero
+pub erased_clear : (len : ℕ) (fixes : List Fix) (page : List ℕ) → length page ≡ len → AreWritable len fixes → AreClear (without_slots page fixes) fixes
+unfolding without_slots
+erased_clear len [] page e w = tt
+erased_clear len (fix ∷ fixes) page e w =
+    let i = w.0.inside in
+    let next = put_at fix.at zeros8 page in
+    let long : length next ≡ len = length-put_at fix.at zeros8 page (omega arith) ∙ e in
+    let below = erased_below fix.at len fixes next long w.2 (rising_above fix fixes len w) in
+    let here : number 8 fix.at next ≡ 0 = put_here fix.at 0 page (omega arith) (omega arith) in
+    (below ∙ here, erased_clear len fixes next long w.2)
+
+pub clear_without : (len : ℕ) (fixes : List Fix) (page : List ℕ) → IsBytes page → length page ≡ len → AreWritable len fixes → AreClear page fixes → without_slots page fixes ≡ page
+unfolding without_slots
+clear_without len [] page bytes e w c = refl
+clear_without len (fix ∷ fixes) page bytes e w c =
+    let i = w.0.inside in
+    let at = number-spelled 8 fix.at page bytes (omega arith) in
+    let here : IsAt page fix.at zeros8 = subst (λ (x : ℕ). IsAt page fix.at (little_bytes 8 x)) c.0 at in
+    ap (λ (x : List ℕ). without_slots x fixes) (put_same fix.at zeros8 page here) ∙ clear_without len fixes page bytes e w.2 c.1
+
 -- what is linked is what its slots write
 pub linked_written : (len : ℕ) (fixes : List Fix) (page : List ℕ) → IsBytes page → length page ≡ len → AreWritable len fixes → Linked page fixes → with_slots page fixes ≡ page
 unfolding with_slots

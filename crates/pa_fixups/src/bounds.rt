@@ -1,7 +1,8 @@
-ghost use Rattle.std.specs.Prelude.{◌≡◌, ◌<◌, ◌^◌};
-ghost use Rattle.pa_fixups.specs.Chain.{may_stand, links_on, ordinal_fits, target_fits};
+ghost use Rattle.std.specs.Prelude.{◌≡◌, ◌<◌, ◌^◌, ◌↔◌, IsTrue};
+ghost use Rattle.pa_fixups.specs.Slots.{FieldsFit};
+ghost use Rattle.pa_fixups.specs.Chain.{may_stand, links_on, ordinal_fits, target_fits, FixFits};
 
-use crate::kind::FixKind;
+use crate::kind::{Fix, FixKind};
 
 /// What the slots of a page are checked against: the page's offset in `__DATA`, the sizes of its sections `__auth_got` and
 /// `__data`, the count of imports, and the image's base and size.
@@ -15,7 +16,29 @@ pub struct Bounds {
     pub size: u64,
 }
 
+/// Each value of the slot has room in its field.
+fn fields_fit(kind: FixKind) -> bool
+    ensures { IsTrue result ↔ FieldsFit kind }
+{
+    match kind {
+        FixKind::Rebase { target, .. } => target < 0x800_0000_0000,
+        FixKind::Bind { addend, .. } => -0x4_0000 <= addend && addend < 0x4_0000,
+        FixKind::AuthRebase { sig, .. } | FixKind::AuthBind { sig, .. } => sig.key.number() < 4,
+    }
+}
+
 impl Bounds {
+    /// The slot may stand where it is in a page of `len` bytes, and its values have room and are allowed.
+    #[tactic(auto, using(crate::proofs::Fitting::fix_fits))]
+    pub fn fits(&self, len: usize, fix: &Fix) -> bool
+        ensures { IsTrue result ↔ FixFits self.now len fix.now }
+    {
+        fields_fit(fix.kind)
+            && self.allows(len, u64::from(fix.at))
+            && self.has_ordinal(fix.kind)
+            && self.has_target(fix.kind)
+    }
+
     /// A slot may stand there: at a multiple of 8, inside its page of `len` bytes and inside one of the sections.
     #[tactic(auto, unfolding(crate::specs::Chain::may_stand))]
     pub(crate) fn allows(&self, len: usize, at: u64) -> bool

@@ -1,0 +1,5 @@
+pub mod Chains
+pub mod Fits
+pub mod Held
+pub mod Pages
+pub mod Whole

@@ -1,0 +1,22 @@
+use Rattle.std.proofs.Common.{ap, ◌∙◌, ℕ, List, length, arith}
+use Rattle.pa_slots.specs.Slots.{slots_with}
+use Rattle.pa_slots.specs.Writing.{pages_of}
+use Rattle.pa_slots.proofs.Held.{length-plain_of, all_writable, slots_written, length-starts_of}
+use Rattle.std.proofs.Common.{refl}
+use Rattle.pa_slots.proofs.writing.write_parts.Goals as goal
+
+pub write_pages-requires-clause-size : goal.write_pages-requires-clause-size
+write_pages-requires-clause-size c =
+    ap length (c.deref.ensures.value ∙ c.in_ok-plain.ensures) ∙ length-plain_of c.args.at.now c.args.pages c.args.cells.now c.requires.fits.cells c.requires.inside
+
+pub write_pages-requires-clause-fits : goal.write_pages-requires-clause-fits
+write_pages-requires-clause-fits c = all_writable c.args.at.now (slots_with c.args.cells.now c.args.fixes.now) c.args.pages c.requires.fits
+
+pub returns-clause-held : goal.returns-clause-held
+returns-clause-held c =
+    slots_written c.args.at.now (slots_with c.args.cells.now c.args.fixes.now) c.args.pages c.args.cells.now c.in_ok-written.written.starts c.in_ok-written.written.bytes.items refl (λ i. omega (arith, c.type_inv.cells i)) c.requires.inside c.requires.fits
+    (c.in_ok-written.ensures.bytes ∙ ap (pages_of 0 c.args.pages c.args.fixes.now) (c.deref.ensures.value ∙ c.in_ok-plain.ensures))
+    c.in_ok-written.ensures.starts
+
+pub returns-clause-pages : goal.returns-clause-pages
+returns-clause-pages c = ap length c.in_ok-written.ensures.starts ∙ length-starts_of 0 c.args.pages c.args.fixes.now
