@@ -1,9 +1,12 @@
-ghost use Rattle.std.specs.Prelude.{◌≡◌, IfOk, length};
+ghost use Rattle.std.specs.Prelude.{◌≡◌, IfOk, length, List, true};
+ghost use Rattle.pa_mem.specs.Memory.{Region, Read, Write, allowed};
+ghost use Rattle.pa_object.specs.Script.{fits_item};
 
 use crate::{End, Loaded, Machine, Trap};
 use pa_log::Log;
 use pa_mem::{Rights, Space};
 use pa_num::{Bytes, Memory};
+use pa_object::{Deed, Item};
 use pa_pac::{Entry, Event, Key, Way, When, ZeroPac};
 use std::alloc::Global;
 
@@ -15,7 +18,11 @@ fn sixteen(alloc: Global) -> Result<Bytes, Memory>
 }
 
 // Sixteen bytes to read and write at 0x2000, sixteen more right behind them, and these words at 0x4000.
-fn space(alloc: Global, words: &[u32]) -> Result<Space, Memory> {
+#[tactic(auto, using(pa_mem::proofs::Found::allowing))]
+fn space(alloc: Global, words: &[u32]) -> Result<Space, Memory>
+    ensures read { IfOk result (λ space. allowed Read space 0x2000 16 ≡ true) }
+    ensures write { IfOk result (λ space. allowed Write space 0x2010 16 ≡ true) }
+{
     let data = Rights {
         read: true,
         write: true,
@@ -29,14 +36,17 @@ fn space(alloc: Global, words: &[u32]) -> Result<Space, Memory> {
     space.add(0x2000, sixteen(alloc)?, data)?;
     space.add(0x2010, sixteen(alloc)?, data)?;
     space.add(0x4000, code, Rights::RUN)?;
-    Ok(space)
+    if space.inside(0x2000, 16, Rights::READ) && space.inside(0x2010, 16, Rights::WRITE) {
+        Ok(space)
+    } else {
+        Err(Memory)
+    }
 }
 
-fn machine<'a>(
-    alloc: Global,
-    words: &[u32],
-    p: &'a ZeroPac,
-) -> Result<Machine<'a, ZeroPac>, Memory> {
+fn machine<'a>(alloc: Global, words: &[u32], p: &'a ZeroPac) -> Result<Machine<'a, ZeroPac>, Memory>
+    ensures read { IfOk result (λ made. allowed Read made.machine.memory 0x2000 16 ≡ true) }
+    ensures write { IfOk result (λ made. allowed Write made.machine.memory 0x2010 16 ≡ true) }
+{
     let loaded = Loaded {
         space: space(alloc, words)?,
         log: Log::new(alloc),
@@ -152,4 +162,57 @@ fn stays_where_memory_is_wanting(rt: HostRuntime) {
     assert_eq!(rt; machine.log().entries(), &[Entry { when, event }][..]);
     assert_eq!(rt; machine.output(), &b"A"[..]);
     assert_eq!(rt; machine.run(&[], 100), Ok(End::Exit(65)));
+}
+
+// This byte sixteen times over the second region.
+fn fill(alloc: Global, step: u32, byte: u8) -> Result<Item, Memory>
+    ensures fits { IfOk result (λ item. (memory : List Region) → allowed Write memory 0x2010 16 ≡ true → fits_item item memory ≡ true) }
+    ensures step { IfOk result (λ item. item.step ≡ step) }
+{
+    let bytes = Bytes::from_slice(alloc, &[byte; 16])?;
+    Ok(Item {
+        step,
+        deed: Deed::Write { at: 0x2010, bytes },
+    })
+}
+
+// The first region copied over the second.
+fn copy(step: u32) -> Item
+    ensures fits { (memory : List Region) → allowed Read memory 0x2000 16 ≡ true → allowed Write memory 0x2010 16 ≡ true → fits_item result memory ≡ true }
+    ensures step { result.step ≡ step }
+{
+    Item {
+        step,
+        deed: Deed::Copy {
+            to: 0x2010,
+            from: 0x2000,
+            count: 16,
+        },
+    }
+}
+
+#[test]
+fn applies_an_item_before_its_instruction(rt: HostRuntime) {
+    // ldr x0, [sp, #0]; svc #3.
+    let words = [0xF940_03E0, 0xD400_0061];
+    for (step, status) in [(0, 0x0707_0707), (1, 0), (2, 0)] {
+        let mut machine = machine(rt.alloc(), &words, &ZeroPac).expect(&rt, "ample memory");
+        let item = fill(rt.alloc(), step, 7).expect(&rt, "ample memory");
+        assert_eq!(rt; machine.run(&[item], 100), Ok(End::Exit(status)));
+    }
+}
+
+#[test]
+fn applies_items_in_order(rt: HostRuntime) {
+    // movz x0, #5; stur x0, [sp, #-16]; ldr x0, [sp, #0]; svc #3.
+    let words = [0xD280_00A0, 0xF81F_03E0, 0xF940_03E0, 0xD400_0061];
+    let mut first = machine(rt.alloc(), &words, &ZeroPac).expect(&rt, "ample memory");
+    let filled = fill(rt.alloc(), 2, 7).expect(&rt, "ample memory");
+    assert_eq!(rt; first.run(&[filled, copy(2)], 100), Ok(End::Exit(5)));
+    let mut second = machine(rt.alloc(), &words, &ZeroPac).expect(&rt, "ample memory");
+    let filled = fill(rt.alloc(), 2, 7).expect(&rt, "ample memory");
+    assert_eq!(rt;
+        second.run(&[copy(2), filled], 100),
+        Ok(End::Exit(0x0707_0707))
+    );
 }
