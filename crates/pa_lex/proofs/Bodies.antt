@@ -1,7 +1,6 @@
 -- What a literal's body stands for.
-use Rattle.std.proofs.Common.{◌≡◌, ◌≢◌, ℕ, zero, suc, ◌+◌, ◌≤◌, ◌<◌, Bool, true, false, cond, List, [], ◌∷◌, ◌++◌, length, take, drop, refl, sym, ◌∙◌, ap, subst, arith, ◌==◌, Option, Some, None, ◌⊎◌, inl, inr, nat_le, length-append, length-drop, append_assoc}
+use Rattle.std.proofs.Common.{◌≡◌, ◌≢◌, ℕ, zero, suc, ◌≤◌, Bool, true, false, cond, List, [], ◌∷◌, ◌++◌, length, drop, refl, sym, ◌∙◌, ap, subst, arith, ◌==◌, Option, Some, None, ◌⊎◌, inl, inr, nat_le, length-append, length-drop, append_assoc}
 use Rattle.std.specs.List.{list_all}
-use Rattle.std.specs.Char.{is_digit}
 use Rattle.std.proofs.lemmas.Bool.Decides.{nat_tests}
 use Rattle.std.proofs.lemmas.List.{append-nil}
 use Rattle.std.proofs.Math.Seq.{drop-length}
@@ -9,8 +8,8 @@ use Rattle.pa_lex.specs.Texts.{Text}
 use Rattle.pa_lex.specs.Literals.{Piece, Plain, Simple, OctalEscape, HexadecimalEscape, piece_text, piece_value, simple_escape, IsPiece, IsPieceAt, IsLongestPiece, StandsFor}
 use Rattle.std.specs.Bool.{then_some}
 use Rattle.pa_lex.specs.Reading.{fitted, piece_at, character_at, IsCharacterOf}
-use Rattle.pa_lex.proofs.Runs.{if_true, if_false, both_true, same_front, heads, tails}
-use Rattle.pa_lex.proofs.Pieces.{octal, hexadecimal, PieceIsRight, IsReadPiece, piece_right, octal_simple}
+use Rattle.pa_lex.proofs.Runs.{both_true, same_front, heads, tails}
+use Rattle.pa_lex.proofs.Pieces.{octal, PieceIsRight, IsReadPiece, piece_right, octal_simple}
 
 -- one text, one piece
 piece_same : (p q : Piece) → IsPiece p → IsPiece q → piece_text p ≡ piece_text q → p ≡ q

@@ -1,8 +1,8 @@
 -- Separators in a row.
-use Rattle.std.proofs.Common.{◌≡◌, ◌≢◌, ℕ, ◌+◌, ◌≤◌, ◌<◌, Bool, true, false, List, [], ◌∷◌, ◌++◌, length, take, drop, refl, sym, ◌∙◌, ap, subst, arith, Option, Some, None, length-append}
+use Rattle.std.proofs.Common.{◌≡◌, ℕ, ◌≤◌, List, [], ◌∷◌, length, take, drop, refl, sym, ◌∙◌, ap, subst, arith, Option, Some, None, length-append}
 use Rattle.std.proofs.Math.Seq.{take-append_seam}
 use Rattle.pa_lex.specs.Texts.{Text}
-use Rattle.pa_lex.specs.Lexes.{Separator, separator_text, IsSeparatorAt, Cursor, moved, starts_line, Gap}
+use Rattle.pa_lex.specs.Lexes.{Separator, separator_text, Cursor, moved, Gap}
 use Rattle.pa_lex.specs.Reading.{separator_at, len_of, passed, Skips}
 use Rattle.pa_lex.proofs.Separators.{separator_is, separator_sound, separator_rest, separator_long, IsReadSeparator}
 

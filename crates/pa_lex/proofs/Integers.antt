@@ -1,5 +1,5 @@
 -- The longest integer constant is the one that is read.
-use Rattle.std.proofs.Common.{◌≡◌, ◌≢◌, ℕ, zero, suc, ◌+◌, ◌≤◌, ◌<◌, Bool, true, false, cond, not, ◌&&◌, ◌||◌, ◌==◌, List, [], ◌∷◌, ◌++◌, length, take, drop, refl, sym, ◌∙◌, ap, subst, arith, append_assoc, length-append, one-add}
+use Rattle.std.proofs.Common.{◌≡◌, ℕ, suc, ◌+◌, ◌≤◌, Bool, true, false, cond, not, ◌==◌, [], ◌∷◌, ◌++◌, length, take, drop, refl, sym, ◌∙◌, ap, subst, arith, append_assoc, length-append, one-add}
 use Rattle.std.specs.List.{prefix_len, list_all}
 use Rattle.std.specs.Char.{is_digit}
 use Rattle.std.proofs.lemmas.Bool.Decides.{nat_tests}
@@ -10,7 +10,7 @@ use Rattle.pa_lex.specs.declared.form.Base.{Base}
 use Rattle.pa_lex.specs.declared.form.Base.TheVariants.{Decimal, Octal, LowerHexadecimal, UpperHexadecimal}
 use Rattle.pa_lex.specs.Texts.{Text}
 use Rattle.pa_lex.specs.Literals.{prefix, radix, may_lead, IsDigits, IsSuffix}
-use Rattle.pa_lex.specs.Reading.{suffix_len, base_at, hexadecimal_at, next_is}
+use Rattle.pa_lex.specs.Reading.{suffix_len, base_at, next_is}
 use Rattle.pa_lex.proofs.Runs.{if_true, if_false, both_true, heads, tails, differ, StopsRun, run_bounds, run_is, run_passes, same_front}
 use Rattle.pa_lex.proofs.Suffixes.{suffix_longest, suffix_fits, suffix_first, suffix_within, is_suffix_byte}
 

@@ -1,5 +1,5 @@
 -- Where lines begin.
-use Rattle.std.proofs.Common.{◌≡◌, ℕ, ◌+◌, ◌-◌, ◌<◌, Bool, List, [], ◌∷◌, ◌++◌, length, get_or, refl, sym, ◌∙◌, ap, arith, sub-one}
+use Rattle.std.proofs.Common.{◌≡◌, ℕ, ◌-◌, ◌<◌, Bool, List, [], ◌∷◌, length, get_or, refl, sym, ◌∙◌, ap, arith, sub-one}
 use Rattle.pa_lex.specs.Bytes.{is_line_feed}
 use Rattle.pa_lex.specs.Lexes.{starts_line}
 

@@ -1,9 +1,9 @@
 -- The longest form is the one that is read.
-use Rattle.std.proofs.Common.{◌≡◌, ◌≢◌, ℕ, zero, suc, ◌+◌, ◌≤◌, ◌<◌, Bool, true, false, cond, not, ◌&&◌, ◌||◌, ◌==◌, List, [], ◌∷◌, ◌++◌, length, take, drop, refl, sym, ◌∙◌, ap, subst, arith, Option, Some, None, append_assoc, length-append, one-add, inl, inr, ◌⊎◌}
+use Rattle.std.proofs.Common.{◌≡◌, ℕ, suc, ◌≤◌, Bool, true, false, cond, ◌==◌, [], ◌∷◌, ◌++◌, length, take, drop, refl, sym, ◌∙◌, ap, subst, arith, Option, Some, None, append_assoc, length-append, one-add, inl, inr}
 use Rattle.std.specs.List.{prefix_len, list_all, find}
 use Rattle.std.specs.Char.{is_digit}
 use Rattle.std.proofs.lemmas.Bool.Decides.{nat_tests}
-use Rattle.std.proofs.lemmas.List.{take-append-drop, length-take-le}
+use Rattle.std.proofs.lemmas.List.{take-append-drop}
 use Rattle.std.proofs.lemmas.List.Folds.{length-prefix_len}
 use Rattle.std.proofs.Math.Seq.{drop-append_seam}
 use Rattle.pa_lex.specs.declared.byte.Class.{Class}
@@ -17,11 +17,11 @@ use Rattle.pa_lex.specs.declared.token.Include.{Include}
 use Rattle.pa_lex.specs.declared.token.Include.TheVariants.{Stdio, Stdint, Ptrauth}
 use Rattle.pa_lex.specs.Texts.{Text, punct_text, include_text, puncts_at}
 use Rattle.pa_lex.specs.Bytes.{is_letter, is_word, is_blank_line, begins}
-use Rattle.pa_lex.specs.Literals.{prefix, radix, may_lead, IsDigits, IsSuffix}
-use Rattle.pa_lex.specs.Forms.{Form, Word, Number, Quoted, Mark, Line, form_text, quote_byte, Fits, is_body}
-use Rattle.pa_lex.specs.Reading.{class_of, front, base_at, number_at, number_from, quoted_by, quoted_at, body_len, is_line, includes, lined, marked, punct_at, form_by, form_at}
-use Rattle.pa_lex.proofs.Runs.{if_true, if_false, both_true, heads, tails, differ, run_bounds, run_passes}
-use Rattle.pa_lex.proofs.Integers.{IsNumberAt, IsReadNumber, number_right}
+use Rattle.pa_lex.specs.Literals.{prefix}
+use Rattle.pa_lex.specs.Forms.{Form, Word, Number, Quoted, Mark, Line, form_text, quote_byte, Fits}
+use Rattle.pa_lex.specs.Reading.{class_of, front, number_at, quoted_by, body_len, is_line, includes, lined, marked, punct_at, form_by, form_at}
+use Rattle.pa_lex.proofs.Runs.{if_true, both_true, heads, tails, differ, run_bounds, run_passes}
+use Rattle.pa_lex.proofs.Integers.{IsNumberAt, number_right}
 use Rattle.pa_lex.proofs.Quotes.{body_is, body_sound}
 use Rattle.pa_lex.proofs.Entries.{begins_splits, begins_joined, IsFirst, first_is, Listed, none_is, some_is}
 use Rattle.pa_lex.proofs.Marks.{head_of, is_mark, ordered}

@@ -1,5 +1,5 @@
 -- The table of punctuators.
-use Rattle.std.proofs.Common.{◌≡◌, ℕ, suc, ◌+◌, ◌≤◌, Bool, true, false, cond, ◌==◌, List, [], ◌∷◌, ◌++◌, length, refl, sym, ◌∙◌, ap, arith, Option, Some, inl, inr}
+use Rattle.std.proofs.Common.{◌≡◌, ℕ, ◌≤◌, Bool, true, false, cond, ◌==◌, List, [], ◌∷◌, length, refl, sym, ◌∙◌, ap, arith, Option, Some, inl, inr}
 use Rattle.std.specs.List.{find}
 use Rattle.std.specs.Str.{bytes_eq}
 use Rattle.pa_lex.specs.declared.token.Punct.{Punct}
@@ -8,7 +8,6 @@ use Rattle.pa_lex.specs.declared.byte.Class.TheVariants.{Other}
 use Rattle.pa_lex.specs.Texts.{Text, punct_text, puncts_at}
 use Rattle.pa_lex.specs.Bytes.{is_white}
 use Rattle.pa_lex.specs.Reading.{class_of}
-use Rattle.pa_lex.proofs.Runs.{if_true, if_false}
 use Rattle.pa_lex.proofs.Entries.{Listed, is_ordered}
 
 -- the first byte of a text

@@ -1,5 +1,5 @@
 -- What forms mean.
-use Rattle.std.proofs.Common.{◌≡◌, ℕ, ◌^◌, ◌<◌, ◌≤◌, Bool, true, false, cond, List, [], ◌∷◌, Option, Some, None, refl, sym, ◌∙◌, ap, arith}
+use Rattle.std.proofs.Common.{◌≡◌, ℕ, ◌^◌, ◌<◌, Bool, true, false, cond, List, [], ◌∷◌, Option, Some, None, refl, sym, ◌∙◌, ap, arith}
 use Rattle.std.specs.List.{find, list_any}
 use Rattle.std.specs.Str.{bytes_eq}
 use Rattle.std.specs.Str.Parse.{digits_value}
@@ -10,11 +10,11 @@ use Rattle.pa_lex.specs.declared.token.Keyword.TheVariants as k
 use Rattle.pa_lex.specs.declared.token.Kind.{Kind}
 use Rattle.pa_lex.specs.declared.token.Kind.TheVariants as kind
 use Rattle.pa_lex.specs.declared.form.Base.{Base}
-use Rattle.pa_lex.specs.declared.form.Quote.TheVariants.{Single, Double}
+use Rattle.pa_lex.specs.declared.form.Quote.TheVariants.{Single}
 use Rattle.pa_lex.specs.Texts.{Text, keyword_text, keywords_at}
-use Rattle.pa_lex.specs.Literals.{radix, is_decimal, is_u, is_l, StandsFor}
-use Rattle.pa_lex.specs.Forms.{Form, Word, Number, Quoted, Mark, Line, NoKeyword, Means, IsInteger}
-use Rattle.pa_lex.specs.Reading.{find_keyword, keyword_of, within_u64, IsKind, IsCharacterOf}
+use Rattle.pa_lex.specs.Literals.{radix, is_decimal, is_u, is_l}
+use Rattle.pa_lex.specs.Forms.{Number, Quoted, NoKeyword, Means, IsInteger}
+use Rattle.pa_lex.specs.Reading.{keyword_of, within_u64, IsCharacterOf}
 
 pub keyword_is : (keyword : Keyword) → keyword_of (keyword_text keyword) ≡ Some keyword
 unfolding keyword_of

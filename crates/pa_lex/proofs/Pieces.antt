@@ -1,14 +1,14 @@
 -- The longest piece of a literal is the one that is read.
-use Rattle.std.proofs.Common.{◌≡◌, ◌≢◌, ℕ, suc, ◌+◌, ◌≤◌, ◌<◌, min, Bool, true, false, cond, ◌==◌, List, [], ◌∷◌, ◌++◌, length, take, drop, refl, sym, ◌∙◌, ap, subst, arith, Option, Some, None, append_assoc}
+use Rattle.std.proofs.Common.{◌≡◌, ◌≢◌, ℕ, ◌≤◌, min, Bool, true, false, ◌==◌, List, [], ◌∷◌, ◌++◌, length, take, drop, refl, sym, ◌∙◌, ap, subst, arith, Option, Some, None}
 use Rattle.std.specs.List.{prefix_len, list_all}
 use Rattle.std.specs.Char.{is_digit}
 use Rattle.std.proofs.lemmas.Bool.Decides.{nat_tests}
 use Rattle.std.proofs.lemmas.List.{take-append-drop, length-take-le}
 use Rattle.std.proofs.lemmas.List.Sums.{prefix_len-le-length}
 use Rattle.pa_lex.specs.Texts.{Text}
-use Rattle.pa_lex.specs.Literals.{Piece, Plain, Simple, OctalEscape, HexadecimalEscape, piece_text, piece_value, simple_escape, IsPiece, IsPieceAt, IsLongestPiece, StandsFor}
-use Rattle.pa_lex.specs.Reading.{front, fitted, simple_at, hexadecimal_escape, escape_at, piece_at, character_at}
-use Rattle.pa_lex.proofs.Runs.{if_true, if_false, run_bounds, run_passes, both_true, same_front, heads, tails}
+use Rattle.pa_lex.specs.Literals.{Piece, Plain, Simple, OctalEscape, HexadecimalEscape, piece_text, simple_escape, IsPieceAt, IsLongestPiece}
+use Rattle.pa_lex.specs.Reading.{front, simple_at, hexadecimal_escape, escape_at, piece_at}
+use Rattle.pa_lex.proofs.Runs.{if_true, if_false, run_bounds, run_passes, both_true, heads, tails}
 
 abbrev pub octal : ℕ → Bool
 octal d = is_digit d 8

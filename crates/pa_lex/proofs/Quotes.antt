@@ -1,5 +1,5 @@
 -- The body of a literal.
-use Rattle.std.proofs.Common.{◌≡◌, ◌≢◌, ℕ, zero, suc, ◌+◌, ◌≤◌, Bool, true, false, cond, not, ◌&&◌, ◌==◌, List, [], ◌∷◌, ◌++◌, length, take, drop, refl, sym, ◌∙◌, ap, subst, arith, Option, Some, None, one-add}
+use Rattle.std.proofs.Common.{◌≡◌, ℕ, suc, ◌+◌, Bool, true, false, cond, not, ◌&&◌, ◌==◌, [], ◌∷◌, ◌++◌, length, take, drop, refl, sym, ◌∙◌, ap, subst, arith, Option, Some, None, one-add}
 use Rattle.std.proofs.lemmas.Bool.Decides.{nat_tests}
 use Rattle.pa_lex.specs.declared.form.Quote.{Quote}
 use Rattle.pa_lex.specs.declared.form.Quote.TheVariants.{Single, Double}
@@ -7,7 +7,6 @@ use Rattle.pa_lex.specs.Texts.{Text}
 use Rattle.pa_lex.specs.Bytes.{is_line_feed}
 use Rattle.pa_lex.specs.Forms.{quote_byte, is_body}
 use Rattle.pa_lex.specs.Reading.{body_len, plus_one}
-use Rattle.pa_lex.proofs.Runs.{heads, tails}
 
 complete_step : (feed taken end : Bool) (z1 z2 : Bool) (o1 o2 : Option ℕ) (n : ℕ) → (not feed && cond taken z1 (not end && z2)) ≡ true → (z1 ≡ true → o1 ≡ Some n) → (z2 ≡ true → o2 ≡ Some n)
     → cond feed None (cond taken (plus_one o1) (cond end (Some 0) (plus_one o2))) ≡ Some (suc n)

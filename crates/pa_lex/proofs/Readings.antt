@@ -1,15 +1,14 @@
 -- Reading a token, and tokens in a row.
-use Rattle.std.proofs.Common.{◌≡◌, ◌≢◌, ℕ, ◌+◌, ◌≤◌, ◌<◌, ◌^◌, Bool, true, false, List, [], ◌∷◌, ◌++◌, length, take, drop, refl, sym, ◌∙◌, ap, subst, arith, Option, Some, None, Result, Ok, Err, length-append, append_assoc, inl, inr}
+use Rattle.std.proofs.Common.{◌≡◌, ◌≢◌, ℕ, ◌≤◌, ◌<◌, List, [], ◌∷◌, ◌++◌, length, take, drop, refl, sym, ◌∙◌, ap, subst, arith, Some, None, Ok, Err, length-append, append_assoc, inl, inr}
 use Rattle.std.proofs.lemmas.List.{append-nil}
 use Rattle.std.proofs.Math.Seq.{take-append_seam}
 use Rattle.pa_num.specs.declared.fault.Fault.{Fault}
 use Rattle.pa_num.specs.declared.fault.Fault.TheVariants.{Refused, Memory}
-use Rattle.pa_lex.specs.declared.token.Kind.{Kind}
 use Rattle.pa_lex.specs.declared.token.Token.{Token}
 use Rattle.pa_lex.specs.declared.token.LexRule.{LexRule}
 use Rattle.pa_lex.specs.Texts.{Text}
-use Rattle.pa_lex.specs.Forms.{Form, form_text, Means, rule_of}
-use Rattle.pa_lex.specs.Lexes.{Separator, separator_text, Cursor, start, moved, Gap, IsFormAt, IsLongest, IsTokenAt, IsSeparatorAt, rule_at, Breaks, Outcome, Whole, Broken, Stops, Reads, Lexes, IsRefused, IsAnswer}
+use Rattle.pa_lex.specs.Forms.{Form, form_text, rule_of}
+use Rattle.pa_lex.specs.Lexes.{Separator, separator_text, Cursor, start, moved, Gap, rule_at, Breaks, Outcome, Whole, Broken, Reads, Lexes, IsRefused, IsAnswer}
 use Rattle.pa_lex.specs.Reading.{separator_at, form_here, passed, IsKind, TakesToken, Skips}
 use Rattle.pa_lex.proofs.Longest.{form_long}
 use Rattle.pa_lex.proofs.Whole.{IsFormHere, form_found, nothing_at}

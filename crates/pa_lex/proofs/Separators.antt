@@ -1,15 +1,14 @@
 -- The separator that begins a text is the one that is read.
-use Rattle.std.proofs.Common.{◌≡◌, ◌≢◌, ℕ, zero, suc, ◌+◌, ◌≤◌, ◌<◌, Bool, true, false, cond, not, ◌&&◌, ◌==◌, List, [], ◌∷◌, ◌++◌, length, take, drop, refl, sym, ◌∙◌, ap, subst, arith, Option, Some, None, codes, append_assoc, one-add, length-append}
-use Rattle.std.specs.List.{prefix_len, list_all}
+use Rattle.std.proofs.Common.{◌≡◌, ℕ, zero, suc, ◌+◌, ◌≤◌, Bool, true, false, cond, not, ◌&&◌, ◌==◌, [], ◌∷◌, ◌++◌, length, take, drop, refl, sym, ◌∙◌, ap, subst, arith, Option, Some, None, codes, append_assoc, one-add}
+use Rattle.std.specs.List.{prefix_len}
 use Rattle.std.proofs.lemmas.Bool.Decides.{nat_tests}
 use Rattle.std.proofs.lemmas.List.{take-append-drop}
-use Rattle.std.proofs.lemmas.List.Folds.{length-prefix_len}
 use Rattle.std.proofs.Math.Seq.{take-append_seam, drop-append_seam}
 use Rattle.pa_lex.specs.Texts.{Text}
 use Rattle.pa_lex.specs.Bytes.{is_white, is_line_feed}
-use Rattle.pa_lex.specs.Lexes.{Separator, White, BlockComment, LineComment, separator_text, Separates, IsSeparatorAt, IsLineEnd, Lacks}
+use Rattle.pa_lex.specs.Lexes.{Separator, White, BlockComment, LineComment, separator_text, IsSeparatorAt, IsLineEnd, Lacks}
 use Rattle.pa_lex.specs.Reading.{next_is, plus_one, close, block, comment_at, separator_at, front}
-use Rattle.pa_lex.proofs.Runs.{if_true, if_false, both_true, heads, tails, StopsRun, front_is, run_is, run_passes, run_stops, same_front}
+use Rattle.pa_lex.proofs.Runs.{both_true, heads, tails, StopsRun, front_is, run_passes, run_stops}
 
 abbrev pub no_feed : ℕ → Bool
 no_feed c = not (is_line_feed c)

@@ -1,28 +1,26 @@
 -- One place, one token.
-use Rattle.std.proofs.Common.{◌≡◌, ◌≢◌, ℕ, zero, suc, ◌+◌, ◌≤◌, ◌<◌, Bool, true, false, cond, not, ◌&&◌, ◌||◌, ◌==◌, List, [], ◌∷◌, ◌++◌, length, take, drop, refl, sym, ◌∙◌, ap, subst, arith, Option, Some, None, codes, inl, inr, ◌⊎◌, length-append}
+use Rattle.std.proofs.Common.{◌≡◌, ◌≢◌, ℕ, ◌+◌, Bool, true, false, ◌||◌, ◌==◌, [], ◌∷◌, ◌++◌, length, refl, sym, ◌∙◌, ap, subst, arith, Some, None, codes, length-append}
 use Rattle.std.proofs.lemmas.Bool.Decides.{nat_tests}
 use Rattle.std.proofs.lemmas.List.{append_cancel_right}
 use Rattle.std.specs.Int.{cast_signed, w8}
-use Rattle.pa_lex.specs.declared.byte.Class.{Class}
-use Rattle.pa_lex.specs.declared.byte.Class.TheVariants.{Letter, Digit, Apostrophe, DoubleQuote, Hash, Other}
+use Rattle.pa_lex.specs.declared.byte.Class.TheVariants.{Other}
 use Rattle.pa_lex.specs.declared.form.Quote.{Quote}
 use Rattle.pa_lex.specs.declared.form.Quote.TheVariants.{Single, Double}
 use Rattle.pa_lex.specs.declared.token.Kind.{Kind}
 use Rattle.pa_lex.specs.declared.token.Kind.TheVariants as k
 use Rattle.pa_lex.specs.declared.token.Keyword.{Keyword}
 use Rattle.pa_lex.specs.declared.token.Token.{Token}
-use Rattle.pa_lex.specs.Texts.{Text, punct_text, include_text, keyword_text}
+use Rattle.pa_lex.specs.Texts.{Text, punct_text, keyword_text}
 use Rattle.pa_lex.specs.Bytes.{is_white, begins}
-use Rattle.pa_lex.specs.Literals.{StandsFor}
-use Rattle.pa_lex.specs.Forms.{Form, Word, Number, Quoted, Mark, Line, form_text, quote_byte, Fits, Means, IsInteger}
-use Rattle.pa_lex.specs.Lexes.{Separator, White, BlockComment, LineComment, separator_text, IsSeparatorAt, Cursor, opens_comment, IsFormAt, IsLongest, IsTokenAt}
+use Rattle.pa_lex.specs.Forms.{Form, Word, Number, Quoted, Mark, Line, form_text, quote_byte, Fits, Means}
+use Rattle.pa_lex.specs.Lexes.{Separator, White, BlockComment, LineComment, IsSeparatorAt, Cursor, opens_comment, IsFormAt, IsLongest, IsTokenAt}
 use Rattle.pa_lex.specs.Reading.{class_of, separator_at, keyword_of}
-use Rattle.pa_lex.proofs.Runs.{both_true, heads, tails, differ, same_front}
+use Rattle.pa_lex.proofs.Runs.{heads, tails, differ, same_front}
 use Rattle.pa_lex.proofs.Entries.{begins_joined}
 use Rattle.pa_lex.proofs.Marks.{head_of, is_mark, mark_same}
 use Rattle.pa_lex.proofs.Integers.{number_same}
 use Rattle.pa_lex.proofs.Longest.{IsFormOf, form_class, class_is, one_include, head_append, form_long}
-use Rattle.pa_lex.proofs.Separators.{separator_sound, none_separator}
+use Rattle.pa_lex.proofs.Separators.{none_separator}
 use Rattle.pa_lex.proofs.Bodies.{stands_one}
 use Rattle.pa_lex.proofs.Meanings.{keyword_is}
 

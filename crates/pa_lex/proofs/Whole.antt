@@ -1,5 +1,5 @@
 -- One list of tokens, or one first rule that is broken.
-use Rattle.std.proofs.Common.{◌≡◌, ◌≢◌, ℕ, zero, suc, ◌+◌, ◌≤◌, ◌<◌, ◌^◌, Bool, true, false, cond, List, [], ◌∷◌, ◌++◌, length, take, drop, refl, sym, ◌∙◌, ap, subst, arith, Option, Some, None, inl, inr, ◌⊎◌, length-append, length-drop, nat_lt, nat_le}
+use Rattle.std.proofs.Common.{◌≡◌, ◌≢◌, ℕ, zero, suc, ◌+◌, ◌≤◌, ◌<◌, ◌^◌, Bool, true, false, cond, List, [], ◌∷◌, length, drop, refl, sym, ◌∙◌, ap, subst, arith, Option, Some, None, inl, inr, ◌⊎◌, length-append}
 use Rattle.std.proofs.lemmas.Bool.{cases_lt}
 use Rattle.std.specs.Str.Parse.{digits_value}
 use Rattle.std.specs.List.{list_any}
@@ -13,14 +13,14 @@ use Rattle.pa_lex.specs.declared.token.LexRule.{LexRule}
 use Rattle.pa_lex.specs.Texts.{Text, keyword_text}
 use Rattle.pa_lex.specs.Literals.{StandsFor, radix, is_decimal, is_u, is_l}
 use Rattle.pa_lex.specs.Forms.{Form, Word, Number, Quoted, Mark, Line, form_text, Means, rule_of}
-use Rattle.pa_lex.specs.Lexes.{Separator, separator_text, Cursor, start, moved, Gap, opens_comment, IsFormAt, IsLongest, IsTokenAt, NothingAt, IsEmptyAt, rule_at, Breaks, Outcome, Whole, Broken, Stops, Reads, Lexes, IsRefused, IsSettled}
-use Rattle.pa_lex.specs.Reading.{separator_at, keyword_of, form_at, form_here, IsKind}
+use Rattle.pa_lex.specs.Lexes.{Separator, separator_text, Cursor, start, moved, Gap, opens_comment, IsFormAt, IsLongest, IsTokenAt, NothingAt, rule_at, Breaks, Outcome, Whole, Broken, Stops, Reads, Lexes, IsRefused, IsSettled}
+use Rattle.pa_lex.specs.Reading.{separator_at, keyword_of, form_at, form_here}
 use Rattle.pa_lex.proofs.Separators.{IsReadSeparator, separator_sound, none_separator, separator_none, separator_long}
 use Rattle.pa_lex.proofs.Gaps.{gap_one}
-use Rattle.pa_lex.proofs.Longest.{IsFormOf, FormIsRight, form_right, form_long}
+use Rattle.pa_lex.proofs.Longest.{FormIsRight, form_right, form_long}
 use Rattle.pa_lex.proofs.Bodies.{stands_decided, stands_one}
 use Rattle.pa_lex.proofs.Meanings.{keyword_found, keyword_none}
-use Rattle.pa_lex.proofs.Tokens.{means_one, token_one, longest_one, form_stops, form_of, form_nonempty}
+use Rattle.pa_lex.proofs.Tokens.{token_one, longest_one, form_stops, form_of, form_nonempty}
 
 -- what a form means, or that it means nothing
 abbrev IsDecided : Form → Type 0

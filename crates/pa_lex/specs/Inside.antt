@@ -1,5 +1,5 @@
 -- A reader as a place in the bytes.
-use Rattle.std.specs.Prelude.{ℕ, ◌+◌, ◌^◌, ◌<◌, length}
+use Rattle.std.specs.Prelude.{◌+◌, ◌^◌, ◌<◌, length}
 use Rattle.pa_lex.specs.declared.reader.Reader.TheInside.{Inside}
 use Rattle.pa_lex.specs.Lexes.{Cursor}
 

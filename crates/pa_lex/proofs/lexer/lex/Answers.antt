@@ -1,4 +1,4 @@
-use Rattle.std.proofs.Common.{◌≡◌, sym, ◌∙◌, ap, subst, arith, true, false, refl}
+use Rattle.std.proofs.Common.{◌≡◌, sym, subst, true, false, refl}
 use Rattle.std.proofs.lemmas.Result.{err_from_is_err_and}
 use Rattle.pa_lex.proofs.Whole.{settled}
 use Rattle.pa_lex.proofs.Readings.{IsReadUpTo, read_start, read_skips, read_token, read_end, read_fails, token_shorter}

@@ -1,6 +1,5 @@
-use Rattle.std.proofs.Common.{◌≡◌, ◌≢◌, sym, ◌∙◌, ap, arith, length, length-drop, [], Some, None}
-use Rattle.pa_lex.specs.Reading.{character_at}
-use Rattle.pa_lex.proofs.Bodies.{read_none, read_more, read_fails, read_all, character_within}
+use Rattle.std.proofs.Common.{sym, ◌∙◌, arith, length-drop}
+use Rattle.pa_lex.proofs.Bodies.{read_more, read_fails, read_all, character_within}
 use Rattle.pa_lex.proofs.Runs.{is_nil, is_no_nil}
 use Rattle.pa_lex.proofs.literal.bytes_of.Goals as goal
 

@@ -1,4 +1,4 @@
-use Rattle.std.proofs.Common.{◌≡◌, sym, ◌∙◌, ap, subst, arith, Some, None, Err}
+use Rattle.std.proofs.Common.{sym, ◌∙◌, ap, subst, arith, Err}
 use Rattle.pa_lex.specs.Reading.{IsKind, TakesToken}
 use Rattle.pa_lex.specs.Shapes.{shown, shown_option}
 use Rattle.pa_lex.proofs.Readings.{form_within, takes_token, breaks_nothing, breaks_form}
