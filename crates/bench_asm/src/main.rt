@@ -25,7 +25,11 @@ fn made(alloc: Global, labels: u32) -> Result<String, AllocError> {
         text.push_str(line.as_str())?;
         match number % 4 {
             3 => {
-                let name = if number % 8 == 3 { number - number.min(REACH) } else { number };
+                let name = if number % 8 == 3 {
+                    number - number.min(REACH)
+                } else {
+                    number
+                };
                 let line = format!(in alloc; "b label_{name}\n")?;
                 text.push_str(line.as_str())?;
             }

@@ -1,4 +1,5 @@
 pub mod Apart
+pub mod Every
 pub mod Numbers
 pub mod Rows
 pub mod Spelled

@@ -1,3 +1,4 @@
+pub mod Every
 pub mod Instructions
 pub mod Lines
 pub mod Operands

@@ -3,3 +3,4 @@ pub mod Steps
 pub mod StepsLeads
 pub mod StepsRun
 pub mod Growth
+pub mod Linked
