@@ -14,7 +14,7 @@ use Rattle.std.proofs.Math.Seq.{take-suc}
 use Rattle.pa_object.specs.declared.object.Mark.{Mark}
 use Rattle.pa_symbols.specs.Symbols.{Text, names_of, public_names}
 use Rattle.pa_symbols.specs.Legal.{public_among, hash_of, has_bit, Covers}
-use Rattle.pa_symbols.proofs.Found.{public_here, public_not_here}
+use Rattle.pa_symbols.proofs.Found.{and_second, public_here, public_not_here}
 
 -- ---- the table
 
@@ -62,13 +62,9 @@ among_names (mark ∷ marks) name = among_step mark.public mark marks name refl 
 
 -- ---- one more mark
 
-and_with_true : (a b : Bool) → a ≡ true → (a && b) ≡ false → b ≡ false
-and_with_true true b e h = h
-and_with_true false b e h = absurd cc
-
 distinct_step : (public : Bool) (before : List Mark) (mark : Mark) → mark.public ≡ public → IsDistinct bytes_eq (public_names before) → (mark.public && public_among before mark.name) ≡ false → IsDistinct bytes_eq (public_names (before ++ mark ∷ []))
 distinct_step true before mark e d f =
-    let none = among_names before mark.name ∙ and_with_true mark.public (public_among before mark.name) e f in
+    let none = among_names before mark.name ∙ and_second mark.public (public_among before mark.name) e f in
     subst (IsDistinct bytes_eq) (sym (public_names-append before (mark ∷ []) ∙ ap (λ (l : List Text). public_names before ++ l) (public_here mark [] e)))
     (IsDistinct-push {eq = bytes_eq} nat_list_eq_equiv (public_names before) mark.name d none)
 distinct_step false before mark e d f =

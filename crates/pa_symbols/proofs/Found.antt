@@ -3,7 +3,7 @@ use Rattle.std.proofs.Common.{◌≡◌, ◌≢◌, ℕ, zero, suc, ◌+◌, ◌
 use Rattle.std.specs.Prelude.{All}
 use Rattle.std.specs.List.{IsDistinct, AllByRecursion, before_first, after_first}
 use Rattle.std.specs.Str.{bytes_eq}
-use Rattle.std.proofs.lemmas.Bool.{cases_eq, eqb-true, eq-eqb, and_parts, or_parts, not-true, leb-true, le-leb, ltb-true}
+use Rattle.std.proofs.lemmas.Bool.{cases_eq, ne_eqb, eqb-true, eq-eqb, and_parts, or_parts, not-true, leb-true, le-leb, ltb-true}
 use Rattle.std.proofs.lemmas.List.{append-nil, drop-drop, drop_all}
 use Rattle.std.proofs.lemmas.List.Elements.{All-nil, All-cons}
 use Rattle.pa_num.specs.declared.fault.ImageRule.TheVariants.{H5}
@@ -124,6 +124,10 @@ names_cut text symbols strings k (suc n) last e h =
 
 -- ---- legality
 
+pub length_from_some : (name : Text) → name ≢ [] → eqb (length name) 0 ≡ false
+length_from_some [] some = absurd (some refl)
+length_from_some (byte ∷ name) some = ne_eqb _ _ (λ e. omega arith)
+
 marks_ascend : (text : TextAt) (symbols strings : List ℕ) (k n : ℕ) → EachStands text symbols strings k n → Ascends (map (λ mark. mark.at) (marks_from text symbols strings k n))
 unfolding Ascends
 marks_ascend text symbols strings k zero h = tt
@@ -166,7 +170,7 @@ public_here mark marks e = rw e refl
 pub public_not_here : (mark : Mark) (marks : List Mark) → mark.public ≡ false → public_names (mark ∷ marks) ≡ public_names marks
 public_not_here mark marks e = rw e refl
 
-and_second : (a b : Bool) → a ≡ true → (a && b) ≡ false → b ≡ false
+pub and_second : (a b : Bool) → a ≡ true → (a && b) ≡ false → b ≡ false
 and_second true b e h = h
 and_second false b e h = absurd cc
 

@@ -22,7 +22,7 @@ use Rattle.pa_symbols.specs.declared.places.SymbolsAt.{SymbolsAt}
 use Rattle.pa_symbols.specs.Symbols.{Text, kind_of, entry_of, entries, names_of, public_names, AreMarks}
 use Rattle.pa_symbols.specs.Reading.{place_in, kind_in, description_in, address_in, is_public, text_in, name_in, is_kind, is_of_word, ascends_at, name_stands, is_first_public, mark_in, marks_from, due_place, public_before, entry_stands, entry_checks, count_in, strings_check, symbols_flaw}
 use Rattle.pa_symbols.proofs.Steps.{checks_on}
-use Rattle.pa_symbols.proofs.Found.{EachStands, public_here, public_not_here, size_of-entries, tables_found}
+use Rattle.pa_symbols.proofs.Found.{EachStands, length_from_some, public_here, public_not_here, size_of-entries, tables_found}
 
 -- ---- what an entry tells
 
@@ -167,10 +167,6 @@ record IsEntry (text : TextAt) (symbols strings : List ℕ) (k : ℕ) (mark : Ma
   pub public_is : is_public symbols k ≡ mark.public
   pub address_is : address_in symbols k ≡ text.address + 4 * mark.at
 
-long_name : (name : Text) → name ≢ [] → eqb (length name) 0 ≡ false
-long_name [] some = absurd (some refl)
-long_name (byte ∷ name) some = ne_eqb _ _ (λ e. omega arith)
-
 entry_is : (text : TextAt) (symbols strings : List ℕ) (k place : ℕ) (mark : Mark) (marks : List Mark) → Due text symbols strings k place (mark ∷ marks) → IsEntry text symbols strings k mark
 unfolding entry_stands
 entry_is text symbols strings k place mark marks d =
@@ -187,7 +183,7 @@ entry_is text symbols strings k place mark marks d =
     let inside = All-head (λ (m : Mark). m.at < text.words) mark marks d.in_text in
     let number : (address_in symbols k - text.address) / 4 ≡ mark.at = omega (arith, v.address_is) in
     let due : place_in symbols k ≡ due_place symbols strings k = v.place_is ∙ d.due in
-    let some : eqb (name_length whole) 0 ≡ false = ap (λ (n : ℕ). eqb n 0) len ∙ long_name mark.name (All-head (λ (n : Text). n ≢ []) mark.name (names_of marks) d.some) in
+    let some : eqb (name_length whole) 0 ≡ false = ap (λ (n : ℕ). eqb n 0) len ∙ length_from_some mark.name (All-head (λ (n : Text). n ≢ []) mark.name (names_of marks) d.some) in
     record {
       stands =
           and_from (is_kind (kind_in symbols k) && (eqb (description_in symbols k) 0 && is_of_word text (address_in symbols k))) (ascends_at symbols k && (name_stands symbols strings k && is_first_public symbols strings k))

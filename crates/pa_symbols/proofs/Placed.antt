@@ -13,7 +13,7 @@ use Rattle.pa_object.specs.Linkable.{Ascends}
 use Rattle.pa_symbols.specs.declared.places.TextAt.{TextAt}
 use Rattle.pa_symbols.specs.Symbols.{Text, entry_of, entries, names_of}
 use Rattle.pa_symbols.specs.Legal.{mark_stands, marks_stand, has_bit}
-use Rattle.pa_symbols.proofs.Found.{AllFit-append}
+use Rattle.pa_symbols.proofs.Found.{AllFit-append, length_from_some}
 
 -- ---- one mark
 
@@ -27,10 +27,6 @@ pub record MarkFits (text : TextAt) (place least : ℕ) (mark : Mark) : Type 0 w
 some_from_length : (name : Text) → eqb (length name) 0 ≡ false → name ≢ []
 some_from_length [] e = absurd cc
 some_from_length (byte ∷ name) e = λ none. cc
-
-length_from_some : (name : Text) → name ≢ [] → eqb (length name) 0 ≡ false
-length_from_some [] some = absurd (some refl)
-length_from_some (byte ∷ name) some = ne_eqb _ _ (λ e. omega arith)
 
 pub mark_fits : (text : TextAt) (place least : ℕ) (mark : Mark) → mark_stands text place least mark ≡ true → MarkFits text place least mark
 unfolding mark_stands

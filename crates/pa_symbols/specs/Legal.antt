@@ -31,7 +31,7 @@ abbrev pub public_among : List Mark → Text → Bool
 public_among marks name = list_any (λ mark. mark.public && bytes_eq name mark.name) marks
 
 abbrev pub hash_step : ℕ → ℕ → ℕ
-hash_step hash byte = (hash * 16777619 + byte) % 2 ^ 32
+hash_step hash byte = (hash + byte) * 16777619 % 2 ^ 32
 
 -- a number below 2 ^ 20 that is the same for equal names
 abbrev pub hash_of : Text → ℕ

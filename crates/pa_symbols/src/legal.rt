@@ -41,14 +41,15 @@ fn marks_stand(marks: &[Mark], text: TextAt) -> bool
     true
 }
 
-/// A number below 2^20 that is the same for equal names (the multiplication of FNV, of which the upper bits are taken).
+/// A number below 2^20 that is the same for equal names. Each byte is added before the multiplication (by FNV's prime), so
+/// the upper bits, which are taken, depend on the last byte too.
 fn hash(name: &[u8]) -> usize
     ensures value { result ≡ spec.hash_of name.now }
     ensures small { result < 2 ^ 20 }
 {
     let mut hash: u64 = 0;
     for byte in name {
-        hash = (hash * 0x0100_0193 + *byte as u64) % 0x1_0000_0000;
+        hash = (hash + *byte as u64) * 0x0100_0193 % 0x1_0000_0000;
     }
     (hash >> 12) as usize
 }
