@@ -161,7 +161,7 @@ words_is first (x ∷ xs) all c e (m, k, h) l q = one_turn word_step word-shrink
     ∙ words_is first xs (all ++ x ∷ []) m e h (ap (goes_with no_words) (append_assoc (first ∷ all) (x ∷ []) xs) ∙ l) q ∙ ap (λ y. Ok (y, e)) (append_assoc (first ∷ all) (x ∷ []) xs)
 
 module _ (names : List (List ℕ)) where
-  base_no_qualifier : (bodies : Bool) (x : BaseTree) (c e : Cursor) → BaseSpells names bodies x c e → begins_qualifier (head c.ahead) ≡ false
+  pub base_no_qualifier : (bodies : Bool) (x : BaseTree) (c e : Cursor) → BaseSpells names bodies x c e → begins_qualifier (head c.ahead) ≡ false
   base_no_qualifier bodies (Void a z) c e h = rw h.ahead refl
   base_no_qualifier bodies (Boolean a z) c e h = rw h.ahead refl
   base_no_qualifier bodies (Words [] a z) c e h = cc
@@ -189,7 +189,7 @@ module _ (names : List (List ℕ)) where
   named_ends (Array of length a z) l c e (m, n, o, h, k, i, j, r) q = named_ends of 1 c m h (λ _. rw (k.takes).ahead refl)
   named_ends (Function of parameters a z) l c e (m, n, o, h, k, i, j, r) q = named_ends of 1 c m h (λ _. rw (k.takes).ahead refl)
 
-  name_ends : (x : DeclaratorTree) (l : ℕ) (c e : Cursor) → has_name x ≡ true → DeclaratorSpells names l x c e → ends_specs (head c.ahead) ≡ true
+  pub name_ends : (x : DeclaratorTree) (l : ℕ) (c e : Cursor) → has_name x ≡ true → DeclaratorSpells names l x c e → ends_specs (head c.ahead) ≡ true
   name_ends x l c e n h = named_ends x l c e h (λ b. absurd (by_case x n b))
     where
       by_case : (y : DeclaratorTree) → has_name y ≡ true → is_absent y ≡ true → ⊥

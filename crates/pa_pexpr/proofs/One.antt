@@ -9,7 +9,7 @@ use Rattle.pa_pexpr.specs.Parser.{Outcome, Stop}
 use Rattle.pa_pexpr.proofs.Sound.{Fits}
 use Rattle.pa_pexpr.proofs.CompleteDeclarators.{complete}
 
-same_answer : {A : Type 0} {o : Outcome A} {x y : A} {c d : Cursor} → o ≡ Ok (x, c) → o ≡ Ok (y, d) → x ≡ y
+pub same_answer : {A : Type 0} {o : Outcome A} {x y : A} {c d : Cursor} → o ≡ Ok (x, c) → o ≡ Ok (y, d) → x ≡ y
 same_answer {A = A} {x = x} {y = y} {c = c} {d = d} e h = let q : ◌≡◌ {A = Result (A × Cursor) Stop} (Ok (x, c)) (Ok (y, d)) = sym e ∙ h in let r : ◌≡◌ {A = A × Cursor} (x, c) (y, d) = cc in ap (λ z. z.0) r
 
 module _ (names : List (List ℕ)) where
