@@ -1,5 +1,6 @@
 -- Equal numbers are of equal punctuators and keywords.
-use Rattle.std.proofs.Common.{◌≡◌, ◌≢◌, ◌↔◌, ℕ, Bool, true, false, ◌==◌, List, [], ◌∷◌, Option, Some, None, refl, sym, ◌∙◌, ap, arith, IsTrue, slice_get}
+use Rattle.std.proofs.Common.{◌≡◌, true, List, [], ◌∷◌, Some, refl, sym, ◌∙◌, ap, slice_get}
+use Rattle.std.proofs.lemmas.Bool.{eqb-true, eq-eqb}
 use Rattle.pa_lex.specs.declared.token.Kind.{Kind}
 use Rattle.pa_lex.specs.declared.token.Kind.TheVariants as kind
 use Rattle.pa_lex.specs.declared.token.Keyword.{Keyword}
@@ -8,10 +9,10 @@ use Rattle.pa_lex.specs.declared.token.Punct.{Punct}
 use Rattle.pa_lex.specs.declared.token.Punct.TheVariants as p
 use Rattle.pa_pexpr.specs.Tokens.{mark_number, word_number, same_mark, same_word, is_mark, is_word}
 
-marks : List Punct
+abbrev marks : List Punct
 marks = p.LeftBracket ∷ p.RightBracket ∷ p.LeftParenthesis ∷ p.RightParenthesis ∷ p.LeftBrace ∷ p.RightBrace ∷ p.Dot ∷ p.Arrow ∷ p.Increment ∷ p.Decrement ∷ p.Ampersand ∷ p.Star ∷ p.Plus ∷ p.Minus ∷ p.Tilde ∷ p.Exclamation ∷ p.Slash ∷ p.Percent ∷ p.ShiftLeft ∷ p.ShiftRight ∷ p.Less ∷ p.Greater ∷ p.LessEqual ∷ p.GreaterEqual ∷ p.Equal ∷ p.NotEqual ∷ p.Caret ∷ p.Bar ∷ p.LogicalAnd ∷ p.LogicalOr ∷ p.Question ∷ p.Colon ∷ p.Semicolon ∷ p.Ellipsis ∷ p.Assign ∷ p.MultiplyAssign ∷ p.DivideAssign ∷ p.RemainderAssign ∷ p.AddAssign ∷ p.SubtractAssign ∷ p.ShiftLeftAssign ∷ p.ShiftRightAssign ∷ p.AndAssign ∷ p.XorAssign ∷ p.OrAssign ∷ p.Comma ∷ []
 
-words : List Keyword
+abbrev words : List Keyword
 words = w.Auto ∷ w.Break ∷ w.Case ∷ w.Char ∷ w.Const ∷ w.Continue ∷ w.Default ∷ w.Do ∷ w.Double ∷ w.Else ∷ w.Enum ∷ w.Extern ∷ w.Float ∷ w.For ∷ w.Goto ∷ w.If ∷ w.Inline ∷ w.Int ∷ w.Long ∷ w.Register ∷ w.Restrict ∷ w.Return ∷ w.Short ∷ w.Signed ∷ w.Sizeof ∷ w.Static ∷ w.Struct ∷ w.Switch ∷ w.Typedef ∷ w.Union ∷ w.Unsigned ∷ w.Void ∷ w.Volatile ∷ w.While ∷ w.Alignas ∷ w.Alignof ∷ w.Atomic ∷ w.Bool ∷ w.Complex ∷ w.Generic ∷ w.Imaginary ∷ w.Noreturn ∷ w.StaticAssert ∷ w.ThreadLocal ∷ w.Ptrauth ∷ []
 
 mark_back : (x : Punct) → slice_get marks (mark_number x) ≡ Some x
@@ -109,20 +110,17 @@ word_back w.StaticAssert = refl
 word_back w.ThreadLocal = refl
 word_back w.Ptrauth = refl
 
-same_number : (m n : ℕ) → (m == n) ≡ true → m ≡ n
-same_number m n e = grind (arith, e)
-
 pub same_mark-true : (x y : Punct) → same_mark x y ≡ true → x ≡ y
-same_mark-true x y e = let h : Some x ≡ Some y = sym (mark_back x) ∙ ap (slice_get marks) (same_number (mark_number x) (mark_number y) e) ∙ mark_back y in cc
+same_mark-true x y e = let h : Some x ≡ Some y = sym (mark_back x) ∙ ap (slice_get marks) (eqb-true (mark_number x) (mark_number y) e) ∙ mark_back y in cc
 
 pub same_word-true : (x y : Keyword) → same_word x y ≡ true → x ≡ y
-same_word-true x y e = let h : Some x ≡ Some y = sym (word_back x) ∙ ap (slice_get words) (same_number (word_number x) (word_number y) e) ∙ word_back y in cc
+same_word-true x y e = let h : Some x ≡ Some y = sym (word_back x) ∙ ap (slice_get words) (eqb-true (word_number x) (word_number y) e) ∙ word_back y in cc
 
 pub same_mark-self : (x : Punct) → same_mark x x ≡ true
-same_mark-self x = eqb-refl (mark_number x)
+same_mark-self x = eq-eqb (mark_number x) (mark_number x) refl
 
 pub same_word-self : (x : Keyword) → same_word x x ≡ true
-same_word-self x = eqb-refl (word_number x)
+same_word-self x = eq-eqb (word_number x) (word_number x) refl
 
 pub is_mark-true : (x : Punct) (k : Kind) → is_mark x k ≡ true → k ≡ kind.Punct x
 is_mark-true x (kind.Punct y) e = ap kind.Punct (same_mark-true y x e)

@@ -1,1 +1,4 @@
+pub mod Infixes
+pub mod Parser
+pub mod Reading
 pub mod Tokens

@@ -1,12 +1,11 @@
 -- Kinds of tokens, as a reader tells them apart.
-use Rattle.std.specs.Prelude.{◌≡◌, ℕ, Bool, true, false, ◌==◌, ◌&&◌, ◌||◌, List, [], ◌∷◌, Option, Some, None}
+use Rattle.std.specs.Prelude.{ℕ, Bool, false, ◌==◌}
 use Rattle.pa_lex.specs.declared.token.Kind.{Kind}
 use Rattle.pa_lex.specs.declared.token.Kind.TheVariants as kind
 use Rattle.pa_lex.specs.declared.token.Keyword.{Keyword}
 use Rattle.pa_lex.specs.declared.token.Keyword.TheVariants as w
 use Rattle.pa_lex.specs.declared.token.Punct.{Punct}
 use Rattle.pa_lex.specs.declared.token.Punct.TheVariants as p
-use Rattle.pa_lex.specs.declared.token.Token.{Token}
 
 -- the punctuators and the keywords by numbers, to tell them apart
 abbrev pub mark_number : Punct → ℕ

@@ -1,5 +1,5 @@
 -- How tightly the operators of C bind (C11 6.5), and their tokens.
-use Rattle.std.specs.Prelude.{ℕ, suc, ◌+◌, Bool, false, ◌&&◌, ◌==◌, nat_le, if◌then◌else◌, List, [], ◌∷◌, Option, Some, None}
+use Rattle.std.specs.Prelude.{ℕ, suc, ◌+◌, Bool, true, false, ◌&&◌, ◌==◌, nat_le, if◌then◌else◌, List, [], ◌∷◌, Option, Some, None}
 use Rattle.pa_lex.specs.declared.token.Punct.{Punct}
 use Rattle.pa_lex.specs.declared.token.Punct.TheVariants as p
 use Rattle.pa_lex.specs.declared.token.Keyword.{Keyword}
@@ -144,10 +144,6 @@ with_word n word.Long = record n { longs = suc n.longs }
 with_word n word.Signed = record n { signs = suc n.signs }
 with_word n word.Unsigned = record n { signs = suc n.signs }
 
-abbrev pub counted : Words → List IntegerWord → Words
-counted n [] = n
-counted n (x ∷ xs) = counted (with_word n x) xs
-
 -- no word stands too often or beside one that it does not go with
 abbrev pub is_integer_type : Words → Bool
 is_integer_type n =
@@ -155,10 +151,15 @@ is_integer_type n =
     && (if n.chars == 0 then nat_le n.ints 1 && (if n.shorts == 0 then nat_le n.longs 2 else n.shorts == 1 && n.longs == 0)
     else n.chars == 1 && (n.ints == 0 && (n.shorts == 0 && n.longs == 0)))
 
+-- each word goes with those before it
+abbrev pub goes_with : Words → List IntegerWord → Bool
+goes_with n [] = true
+goes_with n (x ∷ xs) = is_integer_type (with_word n x) && goes_with (with_word n x) xs
+
 -- the words are a list of C11 6.7.2 for an integer type, in some order
 abbrev pub are_integer_type : List IntegerWord → Bool
 are_integer_type [] = false
-are_integer_type (x ∷ xs) = is_integer_type (counted no_words (x ∷ xs))
+are_integer_type (x ∷ xs) = goes_with no_words (x ∷ xs)
 
 -- the operator between operands that a punctuator is
 abbrev pub operator_of : Punct → Option BinaryOperator

@@ -1,0 +1,2 @@
+//! Statements, declarations and files of C.
+#![tactic(auto)]
