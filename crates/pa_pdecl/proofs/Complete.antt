@@ -141,7 +141,7 @@ module _ (names : List (List ℕ)) where
   ends_here None c e h q = rw h q.ends
   ends_here (Some i) c e (m, k, h) q = rw (k.takes).ahead refl
 
-behind_append : (word : Option Storage) (xs : List InitDeclaratorTree) (x : InitDeclaratorTree) (names : List (List ℕ)) → behind_all word (xs ++ x ∷ []) names ≡ behind_all word (x ∷ []) (behind_all word xs names)
+pub behind_append : (word : Option Storage) (xs : List InitDeclaratorTree) (x : InitDeclaratorTree) (names : List (List ℕ)) → behind_all word (xs ++ x ∷ []) names ≡ behind_all word (x ∷ []) (behind_all word xs names)
 behind_append word [] x names = refl
 behind_append word (OfInitDeclarator y i a z ∷ ys) x names = behind_append word ys x (behind word y names)
 
@@ -414,7 +414,7 @@ begin_of : {k : Kind} {a z : ℕ} {c m : Cursor} → Takes k a z c m → a ≡ b
 begin_of h = sym (ap (λ x. from_of (head x)) h.ahead)
 
 module _ (d : ℕ) where
-  names_append : (xs : FileTree) (x : FileItemTree) (names : List (List ℕ)) → reading.names_behind d (xs ++ x ∷ []) names ≡ behind_item x (reading.names_behind d xs names)
+  pub names_append : (xs : FileTree) (x : FileItemTree) (names : List (List ℕ)) → reading.names_behind d (xs ++ x ∷ []) names ≡ behind_item x (reading.names_behind d xs names)
   names_append [] x names = refl
   names_append (y ∷ ys) x names = names_append ys x (behind_item y names)
 

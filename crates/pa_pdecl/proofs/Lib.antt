@@ -1,2 +1,4 @@
+pub mod Answers
 pub mod Complete
 pub mod LocalReading
+pub mod Sound

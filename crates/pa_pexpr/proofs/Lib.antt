@@ -16,3 +16,4 @@ pub mod Sound
 pub mod SoundSpecs
 pub mod Steps
 pub mod Tokens
+pub mod Turns

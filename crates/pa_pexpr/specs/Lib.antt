@@ -1,4 +1,7 @@
 pub mod Infixes
+pub mod Inside
 pub mod Parser
 pub mod Reading
+pub mod Reads
+pub mod Shown
 pub mod Tokens

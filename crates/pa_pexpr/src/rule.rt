@@ -1,4 +1,5 @@
 use pa_num::Memory;
+use std::alloc::AllocError;
 
 /// A rule of the grammar that tokens can break.
 #[derive(Clone, Copy, Debug, PartialEq, Eq)]
@@ -42,4 +43,15 @@ pub enum Naming {
     Named,
     Unnamed,
     Either,
+}
+
+impl From<AllocError> for ParseError {
+    ghost use Rattle.std.specs.Prelude.{◌≡◌};
+    ghost use Rattle.pa_pexpr.specs.declared.rule.ParseError.TheVariants as error;
+
+    ghost from_gives = { λ _ e. e ≡ error.Memory };
+
+    fn from(_: AllocError) -> ParseError {
+        ParseError::Memory
+    }
 }

@@ -1,0 +1,40 @@
+-- What a parser of files answers.
+use Rattle.std.specs.Prelude.{◌≡◌, ◌≤◌, ℕ, List, ◌++◌, Option, Some, None, Result, Ok, Err}
+use Rattle.pa_num.specs.declared.fault.Fault.{Fault}
+use Rattle.pa_num.specs.declared.fault.Fault.TheVariants.{Refused, Memory}
+use Rattle.pa_lex.specs.declared.token.Token.{Token}
+use Rattle.pa_pexpr.specs.declared.rule.SynRule.{SynRule}
+use Rattle.pa_tree.specs.Cursors.{Cursor, head}
+use Rattle.pa_tree.specs.Stmts.{FileTree}
+use Rattle.pa_tree.specs.Files.{Spells}
+use Rattle.pa_tree.specs.Heights.{file_height}
+
+-- the most levels on a path of a file's tree
+abbrev pub most_levels : ℕ
+most_levels = 200
+
+abbrev pub place_at : ℕ → Option Token → ℕ
+place_at ended None = ended
+place_at ended (Some t) = t.from
+
+-- the place of the next token, or the end of the last one
+abbrev pub place : Cursor → ℕ
+place c = place_at c.ended (head c.ahead)
+
+-- No file within the depth begins with these tokens up to and with the next one, which stands at that place.
+pub record NoneBegins (tokens : List Token) (at : ℕ) : Type 0 where
+  pub front : List Token
+  pub stop : Cursor
+  pub split : tokens ≡ front ++ stop.ahead
+  pub at_is : at ≡ place stop
+  pub none : (x : List Token) (f : FileTree) → head stop.ahead ≡ head x → Spells f (front ++ x) → file_height f ≤ most_levels → ⊥
+
+-- the tokens are the leaves of this file, which is within the depth
+pub record IsFile (tokens : List Token) (f : FileTree) : Type 0 where
+  pub spells : Spells f tokens
+  pub fits : file_height f ≤ most_levels
+
+abbrev pub IsAnswer : List Token → Result FileTree (Fault SynRule) → Type 0
+IsAnswer tokens (Ok f) = IsFile tokens f
+IsAnswer tokens (Err (Refused rule place)) = NoneBegins tokens place
+IsAnswer tokens (Err Memory) = Unit {0}
