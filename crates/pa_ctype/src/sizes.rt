@@ -133,8 +133,10 @@ fn form_layout(structs: &[Option<Members>], form: &Form) -> Option<Layout>
     }
 }
 
-/// How many bytes an object of a type has, and of which number its address is a multiple. None: the type is no complete
-/// object type, or it or an array or struct in it has more than 4,294,967,295 bytes.
+/// How many bytes an object of a type has, and of which number its address is a multiple (C11 6.2.8). None: the type isn't
+/// complete (C11 6.2.5p1), an integer in it has another width than 8, 16, 32 or 64 bits, an array in it has no element, or
+/// it or an array or struct in it has more than 4,294,967,295 bytes. Types behind a pointer, parameters and results aren't
+/// looked at: who asks the same of them walks them.
 pub fn layout_of(structs: &Structs, t: &CType) -> Option<Layout>
     requires { spec.IsSound structs.now }
     ensures answer { spec.IsLayoutOf (spec.table_of structs.now) (type_tree t.now) result }
