@@ -138,7 +138,7 @@ layout_value table t None a = by_layout (layout_in table t) refl
     by_layout None e = sym e
     by_layout (Some l) e = absurd (a l (layout_has table t l e))
 
-member_from_keeps : (lay more : TypeTree → Option Layout) → Keeps lay more → (name : List ℕ) (so_far : Layout) (index : ℕ) (body : Body) (m : Member) → member_from lay name so_far index body ≡ Some m → member_from more name so_far index body ≡ Some m
+pub member_from_keeps : (lay more : TypeTree → Option Layout) → Keeps lay more → (name : List ℕ) (so_far : Layout) (index : ℕ) (body : Body) (m : Member) → member_from lay name so_far index body ≡ Some m → member_from more name so_far index body ≡ Some m
 unfolding member_from
 member_from_keeps lay more h name so_far index [] m e = cc
 member_from_keeps lay more h name so_far index (field ∷ body) m e =

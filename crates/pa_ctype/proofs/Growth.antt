@@ -3,8 +3,10 @@ use Rattle.std.proofs.Common.{◌≡◌, ℕ, zero, suc, List, [], ◌∷◌, �
 use Rattle.std.specs.List.{slice_get, slice_set}
 use Rattle.pa_ctype.specs.declared.ctype.Layout.{Layout}
 use Rattle.pa_ctype.specs.declared.ctype.Held.{Held}
+use Rattle.pa_ctype.specs.declared.ctype.Member.{Member}
 use Rattle.pa_ctype.specs.Types.{TypeTree, type_tree}
-use Rattle.pa_ctype.specs.Layouts.{Body, Table, body_of, struct_layout, laid, HasLayout, table_entry, table_of, AreKept, IsSound}
+use Rattle.pa_ctype.specs.Layouts.{Body, Table, body_of, empty, struct_layout, laid, HasLayout, HasMember, table_entry, table_of, AreKept, IsSound}
+use Rattle.pa_ctype.proofs.Depth.{member_from_keeps}
 use Rattle.pa_ctype.proofs.Laws.{Keeps, then_some, layout_by_keeps, structs_at, struct_layout_keeps}
 
 -- each body of the one table is one of the other
@@ -25,10 +27,15 @@ laid_extends (suc depth) table more h t l e = layout_by_keeps (structs_at depth 
 pub layout_extends : (table more : Table) (t : TypeTree) (l : Layout) → Extends table more → HasLayout table t l → HasLayout more t l
 layout_extends table more t l h k = record { depth = k.depth; is_laid = laid_extends k.depth table more h t l k.is_laid }
 
-kept_extends : (table more : Table) (members : List Held) → Extends table more → AreKept table members → AreKept more members
+pub kept_extends : (table more : Table) (members : List Held) → Extends table more → AreKept table members → AreKept more members
 unfolding AreKept
 kept_extends table more [] h k = tt
 kept_extends table more (held ∷ rest) h k = (layout_extends table more (type_tree held.of) held.layout h k.0, kept_extends table more rest h k.1)
+
+-- so does a member's place
+pub member_extends : (table more : Table) (id : ℕ) (name : List ℕ) (m : Member) → Extends table more → HasMember table id name m → HasMember more id name m
+member_extends table more id name m h k =
+    record { depth = k.depth; body = k.body; body_is = h id k.body k.body_is; found = member_from_keeps (laid k.depth table) (laid k.depth more) (laid_extends k.depth table more h) name empty 0 k.body m k.found }
 
 -- one more struct without a body
 extends_push : (structs : List (Option (List Held))) → Extends (table_of structs) (table_of (structs ++ None ∷ []))

@@ -4,7 +4,8 @@ use Rattle.std.specs.Int.{next_multiple_of}
 use Rattle.std.proofs.lemmas.Bool.Decides.{nat_tests}
 use Rattle.pa_ctype.specs.declared.ctype.Layout.{Layout}
 use Rattle.pa_ctype.specs.declared.ctype.Held.{Held}
-use Rattle.pa_ctype.specs.Layouts.{small, placed, padded, kept_from, most_bytes, AreSmall}
+use Rattle.pa_ctype.specs.Kept.{kept_from, AreFine}
+use Rattle.pa_ctype.specs.Layouts.{small, placed, padded, most_bytes}
 
 multiple_at_least : (n align : ℕ) → n ≤ next_multiple_of n align
 multiple_at_least n align = omega arith
@@ -38,7 +39,7 @@ pub count_more : (so_far l : Layout) (index : ℕ) → 1 ≤ l.size → index �
 count_more so_far l index s i = omega (arith, multiple_at_least so_far.size l.align)
 
 -- each member that is left has its place within the bytes
-pub place_fits : (so_far : Layout) (index : ℕ) (rest : List Held) → 0 < length rest → AreSmall rest → (kept_from so_far rest).size ≤ most_bytes → index ≤ so_far.size → index + 1 ≤ most_bytes
-unfolding AreSmall kept_from
+pub place_fits : (so_far : Layout) (index : ℕ) (rest : List Held) → 0 < length rest → AreFine rest → (kept_from so_far rest).size ≤ most_bytes → index ≤ so_far.size → index + 1 ≤ most_bytes
+unfolding AreFine kept_from
 place_fits so_far index [] l s h i = absurd (omega arith)
-place_fits so_far index (held ∷ more) l s h i = place_more so_far held more index s.0.3 h i
+place_fits so_far index (held ∷ more) l s h i = place_more so_far held more index s.0.some h i

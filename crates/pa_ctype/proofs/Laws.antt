@@ -5,6 +5,7 @@ use Rattle.std.specs.Int.{next_multiple_of}
 use Rattle.std.proofs.lemmas.Bool.Decides.{nat_tests}
 use Rattle.pa_ctype.specs.declared.ctype.Layout.{Layout}
 use Rattle.pa_ctype.specs.Types.{TypeTree, Of, FormTree, Void, Boolean, Integer, Pointer, Array, Struct, Function}
+use Rattle.pa_ctype.specs.Kept.{IsFine}
 use Rattle.pa_ctype.specs.Layouts.{Field, Body, Table, body_of, small, most_bytes, aligned_to_size, integer_layout, times, placed, empty, padded, members_from, struct_layout, layout_by, form_layout_by, laid, HasOneLayout}
 
 -- what a step that may fail came from
@@ -73,13 +74,6 @@ one_layout table t l other h i =
     let b = laid_deeper i.depth (h.depth + i.depth) table (omega arith) t other i.is_laid in
     let e : Some l ≡ Some other = sym a ∙ b in cc
 
--- what each layout is like
-pub record IsFine (l : Layout) : Type 0 where
-  pub positive : 1 ≤ l.align
-  pub align : l.align ≤ 8
-  pub size : l.size ≤ most_bytes
-  pub some : 1 ≤ l.size
-
 at_size_fine : (n : ℕ) → 1 ≤ n → n ≤ 8 → IsFine (aligned_to_size n)
 at_size_fine n h k = record { positive = h; align = k; size = omega arith; some = h }
 
@@ -113,16 +107,16 @@ times_fine (suc n) k l h e =
     let s = small_is (record { size = suc n * k.size; align = k.align }) l e in
     subst IsFine s.0 (record { positive = h.positive; align = h.align; size = s.1; some = some_product n k.size h.some })
 
-AreFine : (ℕ → Option Layout) → Type 0
-AreFine structs = (id : ℕ) (l : Layout) → structs id ≡ Some l → IsFine l
+StructsAreFine : (ℕ → Option Layout) → Type 0
+StructsAreFine structs = (id : ℕ) (l : Layout) → structs id ≡ Some l → IsFine l
 
 mutual
-  unfolding layout_by form_layout_by AreFine
+  unfolding layout_by form_layout_by StructsAreFine
 
-  layout_by_fine : (structs : ℕ → Option Layout) → AreFine structs → (t : TypeTree) (l : Layout) → layout_by structs t ≡ Some l → IsFine l
+  layout_by_fine : (structs : ℕ → Option Layout) → StructsAreFine structs → (t : TypeTree) (l : Layout) → layout_by structs t ≡ Some l → IsFine l
   layout_by_fine structs h (Of constant form) l e = form_fine structs h form l e
 
-  form_fine : (structs : ℕ → Option Layout) → AreFine structs → (form : FormTree) (l : Layout) → form_layout_by structs form ≡ Some l → IsFine l
+  form_fine : (structs : ℕ → Option Layout) → StructsAreFine structs → (form : FormTree) (l : Layout) → form_layout_by structs form ≡ Some l → IsFine l
   form_fine structs h Void l e = cc
   form_fine structs h Boolean l e = let z : aligned_to_size 1 ≡ l = cc in subst IsFine z (at_size_fine 1 (omega arith) (omega arith))
   form_fine structs h (Integer bits signed) l e = integer_fine bits l e
@@ -172,6 +166,6 @@ structs_fine depth table h id l e = let (body, p, q) = then_some (struct_layout 
 
 -- a layout has an alignment of 1 to 8, and a byte at least
 pub laid_fine : (depth : ℕ) (table : Table) (t : TypeTree) (l : Layout) → laid depth table t ≡ Some l → IsFine l
-unfolding laid AreFine
+unfolding laid StructsAreFine
 laid_fine zero table t l e = layout_by_fine (λ id. None) (λ id m f. cc) t l e
 laid_fine (suc depth) table t l e = layout_by_fine (structs_at depth table) (structs_fine depth table (laid_fine depth table)) t l e

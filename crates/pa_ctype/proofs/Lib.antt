@@ -4,5 +4,6 @@ pub mod Growth
 pub mod Kept
 pub mod Laws
 pub mod Objects
+pub mod Raised
 pub mod Sound
 pub mod Views

@@ -8,7 +8,8 @@ use Rattle.pa_ctype.specs.declared.ctype.Layout.{Layout}
 use Rattle.pa_ctype.specs.declared.ctype.Held.{Held}
 use Rattle.pa_ctype.specs.declared.ctype.Member.{Member}
 use Rattle.pa_ctype.specs.Types.{TypeTree, Of, FormTree, Void, Boolean, Integer, Pointer, Array, Struct, Function, type_tree}
-use Rattle.pa_ctype.specs.Layouts.{Body, Table, body_of, times, placed, empty, padded, members_from, struct_layout, layout_by, form_layout_by, laid, HasLayout, fields_of, table_entry, table_of, AreKept, IsSound, AreSmall, AreSmallStructs, kept_from, kept_layout, kept_entry, kept_struct, IsLayoutOf, IsObjectType, member_from, kept_member, member_in, AreFewBytes, LacksMember, IsMemberOf, IsLaidStruct, most_bytes}
+use Rattle.pa_ctype.specs.Kept.{AreFine, AreFineStructs, kept_from, kept_layout, kept_entry, kept_struct, kept_member, member_in, EndWithin}
+use Rattle.pa_ctype.specs.Layouts.{Body, Table, body_of, times, placed, empty, padded, members_from, struct_layout, layout_by, form_layout_by, laid, HasLayout, fields_of, table_entry, table_of, AreKept, IsSound, IsLayoutOf, IsComplete, member_from, LacksMember, IsMemberOf, IsLaidStruct, most_bytes}
 use Rattle.pa_ctype.proofs.Laws.{then_some, layout_by_keeps, structs_at, laid_deeper, one_layout, laid_fine, small_is}
 
 -- the struct of an id, as plain data
@@ -36,14 +37,14 @@ body_at structs id body e = by_entry (slice_get structs id) refl
     by_entry (Some None) f = let z : None ≡ Some body = sym (table_at structs id None f) ∙ e in cc
     by_entry (Some (Some members)) f = let z : Some (fields_of members) ≡ Some body = sym (table_at structs id (Some members) f) ∙ e in record { members = members; at = f; fields = cc }
 
--- what is kept is small
-kept_small : (table : Table) (members : List Held) → AreKept table members → AreSmall members
-unfolding AreKept AreSmall
-kept_small table [] h = tt
-kept_small table (held ∷ more) h = let f = laid_fine h.0.depth table (type_tree held.of) held.layout h.0.is_laid in ((f.positive, f.align, f.size, f.some), kept_small table more h.1)
+-- what is kept is fine
+kept_fine : (table : Table) (members : List Held) → AreKept table members → AreFine members
+unfolding AreKept AreFine
+kept_fine table [] h = tt
+kept_fine table (held ∷ more) h = let f = laid_fine h.0.depth table (type_tree held.of) held.layout h.0.is_laid in (f, kept_fine table more h.1)
 
-pub sound_small : (structs : List (Option (List Held))) → IsSound structs → AreSmallStructs structs
-sound_small structs h id members e = kept_small (table_of structs) members (h id members e)
+pub sound_fine : (structs : List (Option (List Held))) → IsSound structs → AreFineStructs structs
+sound_fine structs h id members e = kept_fine (table_of structs) members (h id members e)
 
 -- a struct that is laid by the definition is laid by what is kept
 members_kept : (table : Table) (depth : ℕ) (so_far l : Layout) (members : List Held) → AreKept table members → members_from (laid depth table) so_far (fields_of members) ≡ Some l → kept_from so_far members ≡ l
@@ -154,7 +155,7 @@ pub kept_is : (structs : List (Option (List Held))) (t : TypeTree) (l : Layout) 
 kept_is structs t l h k = kept_complete structs h k.depth t l k.is_laid
 
 -- where there is a layout it is answered
-pub some_layout : (table : Table) (t : TypeTree) (r : Option Layout) → IsObjectType table t → IsLayoutOf table t r → IsSome r
+pub some_layout : (table : Table) (t : TypeTree) (r : Option Layout) → IsComplete table t → IsLayoutOf table t r → IsSome r
 some_layout table t None (l, h) a = absurd (a l h)
 some_layout table t (Some l) h a = refl
 
@@ -215,7 +216,7 @@ few_by structs id (held ∷ more) h l at =
     let f : kept_layout (held ∷ more) ≡ Some k = sym (ap kept_entry at) ∙ e in
     padded_size (kept_from empty (held ∷ more)) k f
 
-pub few_bytes : (structs : List (Option (List Held))) (id : ℕ) → IsSound structs → IsLaidStruct (table_of structs) id → AreFewBytes structs id
+pub few_bytes : (structs : List (Option (List Held))) (id : ℕ) → IsSound structs → IsLaidStruct (table_of structs) id → EndWithin structs id
 few_bytes structs id h l members at = few_by structs id members h l at
 
 -- a struct has a layout where its type has one

@@ -1,4 +1,5 @@
--- Equality of types, as they are written (C11 6.7.6 where they are compatible leaves more room).
+-- Equality of types, as they are written. It is narrower than what C11 6.2.7 (and 6.7.2, 6.7.3, 6.7.6, which it names) calls
+-- compatible.
 use Rattle.std.specs.Prelude.{ℕ, Bool, true, false, ◌&&◌, ◌==◌, Option, Some, None}
 use Rattle.pa_pac.specs.declared.schema.Schema.{Schema}
 use Rattle.pa_pac.specs.Key.{same_key}

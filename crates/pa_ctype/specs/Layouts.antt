@@ -1,6 +1,6 @@
 -- How many bytes objects have, of which number their addresses are multiples, and where members lie (C11 6.2.8, 6.5.3.4,
 -- 6.7.2.1; where it leaves a choice, as the Procedure Call Standard for the Arm 64-bit Architecture).
-use Rattle.std.specs.Prelude.{◌≡◌, ℕ, zero, suc, ◌+◌, ◌*◌, ◌/◌, ◌≤◌, max, Bool, true, false, not, ◌||◌, ◌==◌, nat_le, if◌then◌else◌, List, [], ◌∷◌, ◌++◌, length, Result, Ok, Err, Option, Some, None, option_and_then, slice_get}
+use Rattle.std.specs.Prelude.{◌≡◌, ℕ, zero, suc, ◌+◌, ◌*◌, ◌/◌, max, Bool, true, false, not, ◌||◌, ◌==◌, nat_le, if◌then◌else◌, List, [], ◌∷◌, ◌++◌, length, Result, Ok, Err, Option, Some, None, option_and_then, slice_get}
 use Rattle.std.specs.Int.{next_multiple_of}
 use Rattle.std.specs.List.{list_all}
 use Rattle.std.specs.Str.{bytes_eq}
@@ -87,8 +87,9 @@ unfoldable pub laid : ℕ → Table → TypeTree → Option Layout
 laid zero table t = layout_by (λ id. None) t
 laid (suc depth) table t = layout_by (λ id. option_and_then (struct_layout (laid depth table)) (body_of table id)) t
 
--- the type is a complete object type, no struct in it holds itself, and no array or struct in it has too many bytes; the
--- object has this layout
+-- The type is a complete object type (C11 6.2.5p1); no struct in it holds itself; an integer in it has 8, 16, 32 or 64 bits,
+-- an array an element at least, a struct a member at least; no array or struct in it has more than `most_bytes` bytes. The
+-- object has this layout. Types behind a pointer, and a function's parameters and result, are not in it.
 pub record HasLayout (table : Table) (t : TypeTree) (layout : Layout) : Type 0 where
   pub depth : ℕ
   pub is_laid : laid depth table t ≡ Some layout
@@ -104,9 +105,9 @@ HasSize table t size = (l : Layout) × HasLayout table t l × (l.size ≡ size)
 abbrev pub HasAlign : Table → TypeTree → ℕ → Type 0
 HasAlign table t align = (l : Layout) × HasLayout table t l × (l.align ≡ align)
 
--- the type is a complete object type, with what `HasLayout` asks
-abbrev pub IsObjectType : Table → TypeTree → Type 0
-IsObjectType table t = (l : Layout) × HasLayout table t l
+-- the type is complete (C11 6.2.5p1), with what `HasLayout` asks
+abbrev pub IsComplete : Table → TypeTree → Type 0
+IsComplete table t = (l : Layout) × HasLayout table t l
 
 -- where the first member of that name lies behind those that are laid so far, and its place
 unfoldable pub member_from : (TypeTree → Option Layout) → List ℕ → Layout → ℕ → Body → Option Member
@@ -150,7 +151,8 @@ unfoldable pub AreKept : Table → List Held → Type 0
 AreKept table [] = Unit {0}
 AreKept table (held ∷ more) = HasLayout table (type_tree held.of) held.layout × AreKept table more
 
--- what a struct with a body holds are complete object types, no struct holds itself, and members are kept with their layouts
+-- what a struct with a body holds are complete object types of at most `most_bytes` bytes (the struct itself may have more),
+-- no struct holds itself, and members are kept with their layouts
 abbrev pub IsSound : List (Option (List Held)) → Type 0
 IsSound structs = (id : ℕ) (members : List Held) → slice_get structs id ≡ Some (Some members) → AreKept (table_of structs) members
 
@@ -177,44 +179,3 @@ IsMemberOf table id name (Some member) = HasMember table id name member
 -- the struct has a layout, or no body
 abbrev pub IsLaidStruct : Table → ℕ → Type 0
 IsLaidStruct table id = (body : Body) → body_of table id ≡ Some body → (l : Layout) × HasLayout table (Of false (Struct id)) l
-
--- each kept layout is small
-unfoldable pub AreSmall : List Held → Type 0
-AreSmall [] = Unit {0}
-AreSmall (held ∷ more) = ((1 ≤ held.layout.align) × (held.layout.align ≤ 8) × (held.layout.size ≤ most_bytes) × (1 ≤ held.layout.size)) × AreSmall more
-
--- the layout of a struct by the layouts that are kept with its members
-unfoldable pub kept_from : Layout → List Held → Layout
-kept_from so_far [] = so_far
-kept_from so_far (held ∷ more) = kept_from (placed so_far held.layout) more
-
-abbrev pub kept_layout : List Held → Option Layout
-kept_layout [] = None
-kept_layout (held ∷ more) = padded (kept_from empty (held ∷ more))
-
-abbrev pub kept_entry : Option (Option (List Held)) → Option Layout
-kept_entry None = None
-kept_entry (Some None) = None
-kept_entry (Some (Some members)) = kept_layout members
-
-abbrev pub kept_struct : List (Option (List Held)) → ℕ → Option Layout
-kept_struct structs id = kept_entry (slice_get structs id)
-
--- whether a struct's members are small, where it has a body
-abbrev pub AreSmallStructs : List (Option (List Held)) → Type 0
-AreSmallStructs structs = (id : ℕ) (members : List Held) → slice_get structs id ≡ Some (Some members) → AreSmall members
-
--- the first member of that name by the layouts that are kept
-unfoldable pub kept_member : List ℕ → Layout → ℕ → List Held → Option Member
-kept_member name so_far index [] = None
-kept_member name so_far index (held ∷ more) =
-    if bytes_eq held.name name then Some (record { offset = next_multiple_of so_far.size held.layout.align; index = index }) else kept_member name (placed so_far held.layout) (index + 1) more
-
-abbrev pub member_in : List ℕ → Option (Option (List Held)) → Option Member
-member_in name None = None
-member_in name (Some None) = None
-member_in name (Some (Some members)) = kept_member name empty 0 members
-
--- the members of the struct have few bytes, where it has a body
-abbrev pub AreFewBytes : List (Option (List Held)) → ℕ → Type 0
-AreFewBytes structs id = (members : List Held) → slice_get structs id ≡ Some (Some members) → (kept_from empty members).size ≤ most_bytes

@@ -8,9 +8,9 @@ pub record Under : Type 0 where
   pub schema : Schema
   pub place : Place
 
--- a function is entered, one of the runtime's too; a qualified pointer to a function is loaded, from a place under a
--- schema other than that of plain pointers; a function is called by pointer, whose schema and place are named where the
--- called expression is such a load
+-- A function is entered, one of the runtime's too. A qualified pointer to a function is loaded and isn't null; its schema is
+-- another than that of plain pointers (key IA, no address, discriminator 0). A function is called by pointer, after its
+-- arguments; the schema and the place are named where the called expression is a load of a qualified pointer, of any schema.
 pub data Seen : Type 0 where
   Enter : (name : List ℕ) → Seen
   Load : (schema : Schema) (place : Place) (name : List ℕ) → Seen

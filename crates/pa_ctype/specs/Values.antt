@@ -8,8 +8,9 @@ use Rattle.pa_ctype.specs.Types.{TypeTree, Of, FormTree, Void, Boolean, Integer,
 use Rattle.pa_ctype.specs.Equality.{same_but_const}
 use Rattle.pa_ctype.specs.Layouts.{Body, Table, body_of, placed, empty, laid, layout_in}
 
--- which object: a global by its name, a string literal by its place among those of the program, a local object by its
--- number; objects are numbered from 0 in the order in which they come to life
+-- Which object: a global by its name; a string literal by its place, from 0, among those that lie in memory by themselves (not
+-- those that initialise an array at file level, nor those in an operand of `sizeof`); a local object by its number. Objects are
+-- numbered from 0 in the order in which they come to life.
 pub data Owner : Type 0 where
   Global : (name : List ℕ) → Owner
   Text : (index : ℕ) → Owner
@@ -72,7 +73,7 @@ unfoldable pub cell_at : List Cell → ℕ → Option Cell
 cell_at [] offset = None
 cell_at (cell ∷ cells) offset = if cell.at == offset then Some cell else cell_at cells offset
 
--- the cell of a living object that begins at the place and has that type
+-- the cell of a living object that begins at the place and has that type, but for a `const` of its own
 abbrev pub cell_in : ℕ → TypeTree → Object → Option Cell
 cell_in offset t object = if object.alive then option_and_then (λ cell. if same_but_const cell.of t then Some cell else None) (cell_at object.cells offset) else None
 
@@ -95,7 +96,7 @@ with_object change (object ∷ objects) owner = if same_owner object.owner owner
 abbrev pub with_value : Objects → Place → CValue → Objects
 with_value objects place value = with_object (λ object. record object { cells = with_cell object.cells place.offset value }) objects place.owner
 
--- the objects after an initialiser gives a cell its value; none where there is no such cell
+-- the objects after an initialiser gives a cell its value, a constant one too; none where there is no such cell
 abbrev pub initialised : Objects → Place → TypeTree → CValue → Option Objects
 initialised objects place t value = option_and_then (λ cell. Some (with_value objects place value)) (cell_of objects place t)
 

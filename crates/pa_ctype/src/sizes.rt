@@ -1,5 +1,6 @@
 ghost use Rattle.std.specs.Prelude.{◌≡◌, ◌≤◌, ◌*◌, slice_get};
 ghost use Rattle.pa_ctype.specs.Types.{type_tree, form_tree};
+ghost use Rattle.pa_ctype.specs.Kept as kept;
 ghost use Rattle.pa_ctype.specs.Layouts as spec;
 
 use crate::ctype::{CType, Form, Held, Layout, Member, Members, Structs};
@@ -63,10 +64,10 @@ fn padded(layout: Layout) -> Option<Layout>
 }
 
 /// The layout of a struct of these members.
-#[tactic(auto, using(crate::proofs::Kept::too_large), unfolding(crate::specs::Layouts::kept_from, crate::specs::Layouts::AreSmall))]
+#[tactic(auto, using(crate::proofs::Kept::too_large), unfolding(crate::specs::Kept::kept_from, crate::specs::Kept::AreFine))]
 fn kept_layout(members: &[Held]) -> Option<Layout>
-    requires { spec.AreSmall members.now }
-    ensures { result ≡ spec.kept_layout members.now }
+    requires { kept.AreFine members.now }
+    ensures { result ≡ kept.kept_layout members.now }
 {
     if members.is_empty() {
         return None;
@@ -84,8 +85,8 @@ fn kept_layout(members: &[Held]) -> Option<Layout>
 }
 
 fn struct_layout(structs: &[Option<Members>], id: u32) -> Option<Layout>
-    requires { spec.AreSmallStructs structs.now }
-    ensures { result ≡ spec.kept_struct structs.now id }
+    requires { kept.AreFineStructs structs.now }
+    ensures { result ≡ kept.kept_struct structs.now id }
 {
     match structs.get(id as usize) {
         Some(Some(members)) => kept_layout(members.as_slice()),
@@ -109,8 +110,8 @@ fn times(count: u64, of: Layout) -> Option<Layout>
 #[cycle(layouts)]
 #[tactic(auto, using(crate::proofs::Views::layout_by_form))]
 fn type_layout(structs: &[Option<Members>], t: &CType) -> Option<Layout>
-    requires { spec.AreSmallStructs structs.now }
-    ensures { result ≡ spec.layout_by (spec.kept_struct structs.now) (type_tree t.now) }
+    requires { kept.AreFineStructs structs.now }
+    ensures { result ≡ spec.layout_by (kept.kept_struct structs.now) (type_tree t.now) }
 {
     form_layout(structs, &t.form)
 }
@@ -118,8 +119,8 @@ fn type_layout(structs: &[Option<Members>], t: &CType) -> Option<Layout>
 #[cycle(layouts)]
 #[tactic(auto, using(crate::proofs::Views::views), unfolding(crate::specs::Layouts::form_layout_by))]
 fn form_layout(structs: &[Option<Members>], form: &Form) -> Option<Layout>
-    requires { spec.AreSmallStructs structs.now }
-    ensures { result ≡ spec.form_layout_by (spec.kept_struct structs.now) (form_tree form.now) }
+    requires { kept.AreFineStructs structs.now }
+    ensures { result ≡ spec.form_layout_by (kept.kept_struct structs.now) (form_tree form.now) }
 {
     match form {
         Form::Void => None,
@@ -132,8 +133,10 @@ fn form_layout(structs: &[Option<Members>], form: &Form) -> Option<Layout>
     }
 }
 
-/// How many bytes an object of a type has, and of which number its address is a multiple. None: the type is no complete
-/// object type, or it or an array or struct in it has more than 4,294,967,295 bytes.
+/// How many bytes an object of a type has, and of which number its address is a multiple (C11 6.2.8). None: the type isn't
+/// complete (C11 6.2.5p1), an integer in it has another width than 8, 16, 32 or 64 bits, an array in it has no element, or
+/// it or an array or struct in it has more than 4,294,967,295 bytes. Types behind a pointer, parameters and results aren't
+/// looked at: who asks the same of them walks them.
 pub fn layout_of(structs: &Structs, t: &CType) -> Option<Layout>
     requires { spec.IsSound structs.now }
     ensures answer { spec.IsLayoutOf (spec.table_of structs.now) (type_tree t.now) result }
@@ -147,7 +150,7 @@ pub fn layout_of(structs: &Structs, t: &CType) -> Option<Layout>
 #[tactic(auto, using(crate::proofs::Sound::some_layout))]
 pub fn size(structs: &Structs, t: &CType) -> u64
     requires sound { spec.IsSound structs.now }
-    requires complete { spec.IsObjectType (spec.table_of structs.now) (type_tree t.now) }
+    requires complete { spec.IsComplete (spec.table_of structs.now) (type_tree t.now) }
     ensures { spec.HasSize (spec.table_of structs.now) (type_tree t.now) result }
 {
     layout_of(structs, t).unwrap().size
@@ -157,18 +160,18 @@ pub fn size(structs: &Structs, t: &CType) -> u64
 #[tactic(auto, using(crate::proofs::Sound::some_layout))]
 pub fn align(structs: &Structs, t: &CType) -> u64
     requires sound { spec.IsSound structs.now }
-    requires complete { spec.IsObjectType (spec.table_of structs.now) (type_tree t.now) }
+    requires complete { spec.IsComplete (spec.table_of structs.now) (type_tree t.now) }
     ensures { spec.HasAlign (spec.table_of structs.now) (type_tree t.now) result }
 {
     layout_of(structs, t).unwrap().align
 }
 
 /// The first member of that name.
-#[tactic(auto, using(crate::proofs::Kept::kept_bytes, crate::proofs::Kept::place_more, crate::proofs::Kept::count_more), unfolding(crate::specs::Layouts::kept_member, crate::specs::Layouts::AreSmall))]
+#[tactic(auto, using(crate::proofs::Kept::kept_bytes, crate::proofs::Kept::place_more, crate::proofs::Kept::count_more), unfolding(crate::specs::Kept::kept_member, crate::specs::Kept::AreFine))]
 fn find_member(members: &[Held], name: &[u8]) -> Option<Member>
-    requires small { spec.AreSmall members.now }
-    requires few { (spec.kept_from spec.empty members.now).size ≤ spec.most_bytes }
-    ensures { result ≡ spec.kept_member name.now spec.empty 0 members.now }
+    requires small { kept.AreFine members.now }
+    requires few { (kept.kept_from spec.empty members.now).size ≤ spec.most_bytes }
+    ensures { result ≡ kept.kept_member name.now spec.empty 0 members.now }
 {
     let mut so_far = Layout { size: 0, align: 1 };
     let mut index = 0;
@@ -188,9 +191,9 @@ fn find_member(members: &[Held], name: &[u8]) -> Option<Member>
 }
 
 fn member_of(structs: &[Option<Members>], id: u32, name: &[u8]) -> Option<Member>
-    requires small { spec.AreSmallStructs structs.now }
-    requires few { spec.AreFewBytes structs.now id }
-    ensures { result ≡ spec.member_in name.now (slice_get structs.now id) }
+    requires small { kept.AreFineStructs structs.now }
+    requires few { kept.EndWithin structs.now id }
+    ensures { result ≡ kept.member_in name.now (slice_get structs.now id) }
 {
     match structs.get(id as usize) {
         Some(Some(members)) => find_member(members.as_slice(), name),

@@ -1,13 +1,14 @@
 use Rattle.std.proofs.Common.{sym, ◌∙◌, ap, subst}
 use Rattle.pa_ctype.specs.Types.{type_tree}
-use Rattle.pa_ctype.specs.Layouts.{AreSmallStructs, layout_by, kept_struct, table_of}
+use Rattle.pa_ctype.specs.Kept.{AreFineStructs, kept_struct}
+use Rattle.pa_ctype.specs.Layouts.{layout_by, table_of}
 use Rattle.pa_ctype.proofs.Depth.{layout_value}
 use Rattle.pa_ctype.proofs.Laws.{one_layout}
-use Rattle.pa_ctype.proofs.Sound.{sound_small, kept_answer}
+use Rattle.pa_ctype.proofs.Sound.{sound_fine, kept_answer}
 use Rattle.pa_ctype.proofs.sizes.layout_of.Goals as goal
 
 pub type_layout-requires : goal.type_layout-requires
-type_layout-requires c = subst AreSmallStructs (sym c.as_slice.ensures) (sound_small c.args.structs.now c.requires)
+type_layout-requires c = subst AreFineStructs (sym c.as_slice.ensures) (sound_fine c.args.structs.now c.requires)
 
 pub returns-clause-answer : goal.returns-clause-answer
 returns-clause-answer c =

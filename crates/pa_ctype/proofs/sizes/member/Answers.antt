@@ -1,15 +1,16 @@
 use Rattle.std.proofs.Common.{sym, ◌∙◌, ap, subst}
 use Rattle.std.specs.List.{slice_get}
-use Rattle.pa_ctype.specs.Layouts.{AreSmallStructs, AreFewBytes, table_of, member_in}
+use Rattle.pa_ctype.specs.Kept.{AreFineStructs, EndWithin, member_in}
+use Rattle.pa_ctype.specs.Layouts.{table_of}
 use Rattle.pa_ctype.proofs.Depth.{member_value}
-use Rattle.pa_ctype.proofs.Sound.{sound_small, member_found, few_bytes}
+use Rattle.pa_ctype.proofs.Sound.{sound_fine, member_found, few_bytes}
 use Rattle.pa_ctype.proofs.sizes.member.Goals as goal
 
 pub member_of-requires-clause-small : goal.member_of-requires-clause-small
-member_of-requires-clause-small c = subst AreSmallStructs (sym c.as_slice.ensures) (sound_small c.args.structs.now c.requires.sound)
+member_of-requires-clause-small c = subst AreFineStructs (sym c.as_slice.ensures) (sound_fine c.args.structs.now c.requires.sound)
 
 pub member_of-requires-clause-few : goal.member_of-requires-clause-few
-member_of-requires-clause-few c = subst (λ s. AreFewBytes s c.args.id) (sym c.as_slice.ensures) (few_bytes c.args.structs.now c.args.id c.requires.sound c.requires.complete)
+member_of-requires-clause-few c = subst (λ s. EndWithin s c.args.id) (sym c.as_slice.ensures) (few_bytes c.args.structs.now c.args.id c.requires.sound c.requires.complete)
 
 pub returns-clause-answer : goal.returns-clause-answer
 returns-clause-answer c =
