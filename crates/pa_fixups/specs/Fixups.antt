@@ -64,6 +64,9 @@ fixups_bytes at fixups =
     (spelled (header_of at count) ∷ spelled (segments_of at) ∷ spelled (pages_of at) ∷ spelled (map two fixups.starts)
     ∷ replicate (imports_at at - starts_end at) 0 ∷ spelled (entries 1 fixups.imports) ∷ (0 ∷ []) ∷ ended fixups.imports ∷ [])
 
+abbrev pub fixups_with : List ℕ → List (List ℕ) → Fixups
+fixups_with starts imports = record { starts = starts; imports = imports }
+
 -- there is a start for each page, each number has room in its field, and no name has a zero byte
 pub record FixupsFit (at : DataAt) (fixups : Fixups) : Type 0 where
   pub pages : length fixups.starts ≡ at.pages

@@ -1,9 +1,9 @@
-ghost use Rattle.std.specs.Prelude.{◌≡◌, ◌++◌, map, replicate, IfOk, OnOk};
+ghost use Rattle.std.specs.Prelude.{◌≡◌, ◌<◌, ◌+◌, ◌*◌, ◌^◌, ◌++◌, length, map, replicate, IfOk, OnOk};
 ghost use Rattle.pa_layout.specs.Fields.{AllFit, spelled, two};
 ghost use Rattle.pa_layout.specs.Names.{ended};
-ghost use Rattle.pa_layout.specs.Flaws.{AnswersOrMemory, GivesOrMemory};
+ghost use Rattle.pa_layout.specs.Flaws.{AnswersOrMemory, GivesOrMemory, IfRefused};
 ghost use Rattle.pa_fixups.specs.declared.tables.Fixups.{Fixups};
-ghost use Rattle.pa_fixups.specs.Fixups.{FixupsFit, IsPart, entries, fixups_flaw, taken};
+ghost use Rattle.pa_fixups.specs.Fixups.{FixupsFit, IsPart, entries, fixups_bytes, fixups_flaw, fixups_with, taken};
 
 use crate::imports::{check_entries, read_names, read_starts};
 use crate::tables::{
@@ -39,6 +39,7 @@ pub fn read_fixups(alloc: Global, part: &[u8], at: DataAt) -> Result<Fixups, Fau
     ensures found { IfOk result (λ fixups. IsPart at fixups part.now) }
     ensures only { (fixups : Fixups) → IsPart at fixups part.now → GivesOrMemory fixups result }
     ensures flaw { AnswersOrMemory result (fixups_flaw at part.now) }
+    ensures place { IfRefused result (λ rule place. place < 2 ^ 40 + 4 * at.pages + length part.now) }
 {
     read_parts(alloc, part, at)
 }
@@ -78,21 +79,39 @@ fn put_names(out: &mut Vec<u8>, names: &[Name]) -> Result<(), AllocError>
     Ok(())
 }
 
+/// Appends the part of an image that holds these starts and imports.
+pub fn put_fixups(
+    out: &mut Vec<u8>,
+    starts: &[u16],
+    imports: &[Name],
+    at: DataAt,
+) -> Result<(), AllocError>
+    requires { FixupsFit at (fixups_with starts.now imports.now) }
+    ensures { OnOk result (out.new.items ≡ out.old.items ++ fixups_bytes at (fixups_with starts.now imports.now)) }
+{
+    put_fields(out, &header_fields(at, imports.len() as u32))?;
+    put_fields(out, &segment_fields(at))?;
+    put_fields(out, &page_fields(at))?;
+    put_starts(out, starts)?;
+    put_zeros(out, at.imports() - at.starts_end())?;
+    put_entries(out, imports)?;
+    put_zeros(out, 1)?;
+    put_names(out, imports)?;
+    Ok(())
+}
+
 /// The part of an image that holds the fixups.
 pub fn write_fixups(alloc: Global, fixups: &Fixups, at: DataAt) -> Result<Vec<u8>, Memory>
     requires { FixupsFit at fixups.now }
     ensures { IfOk result (λ part. IsPart at fixups.now part.items) }
 {
-    let names = fixups.imports.as_slice();
     let mut out = Vec::new(alloc);
-    put_fields(&mut out, &header_fields(at, names.len() as u32))?;
-    put_fields(&mut out, &segment_fields(at))?;
-    put_fields(&mut out, &page_fields(at))?;
-    put_starts(&mut out, fixups.starts.as_slice())?;
-    put_zeros(&mut out, at.imports() - at.starts_end())?;
-    put_entries(&mut out, names)?;
-    put_zeros(&mut out, 1)?;
-    put_names(&mut out, names)?;
+    put_fixups(
+        &mut out,
+        fixups.starts.as_slice(),
+        fixups.imports.as_slice(),
+        at,
+    )?;
     Ok(out)
 }
 

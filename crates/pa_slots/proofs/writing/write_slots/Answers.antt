@@ -3,7 +3,7 @@ use Rattle.pa_slots.specs.Slots.{slots_with}
 use Rattle.pa_slots.specs.Writing.{pages_of}
 use Rattle.pa_slots.proofs.Held.{length-plain_of, all_writable, slots_written, length-starts_of}
 use Rattle.std.proofs.Common.{refl}
-use Rattle.pa_slots.proofs.writing.write_parts.Goals as goal
+use Rattle.pa_slots.proofs.writing.write_slots.Goals as goal
 
 pub write_pages-requires-clause-size : goal.write_pages-requires-clause-size
 write_pages-requires-clause-size c =
