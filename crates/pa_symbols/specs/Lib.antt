@@ -1,3 +1,4 @@
+pub mod Legal
 pub mod Names
 pub mod Reading
 pub mod Symbols

@@ -8,10 +8,11 @@ use pa_layout::{number_of_eight, number_of_four, number_of_two};
 /// The bytes of an entry.
 pub(crate) const ENTRY_SIZE: usize = 16;
 
-// n_type (N_SECT with or without N_EXT) and behind it n_sect, the section 1.
-const PUBLIC: u16 = 0x010f;
+/// n_type and behind it n_sect of a name that other images see (N_SECT with N_EXT) in section 1, which is `__text`.
+pub(crate) const PUBLIC: u16 = 0x010f;
 
-const PRIVATE: u16 = 0x010e;
+/// The same of a name that no other image sees (N_SECT).
+pub(crate) const PRIVATE: u16 = 0x010e;
 
 /// An entry of the symbol table (mach-o/nlist.h: nlist_64): n_strx, n_type with n_sect, n_desc and n_value.
 #[derive(Clone, Copy, Debug, PartialEq, Eq)]

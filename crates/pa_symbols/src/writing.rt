@@ -2,6 +2,7 @@ ghost use Rattle.std.specs.Prelude.{◌≡◌, ◌++◌, OnOk, IfOk};
 ghost use Rattle.pa_layout.specs.Fields.{AllFit};
 ghost use Rattle.pa_symbols.specs.Symbols as spec;
 
+use crate::entry::{PRIVATE, PUBLIC};
 use crate::places::TextAt;
 use pa_layout::{FileField, put_fields};
 use pa_num::{Bytes, Memory};
@@ -19,10 +20,10 @@ pub struct SymbolTables {
 pub(crate) fn entry_fields(mark: &Mark, place: u128, address: u64) -> [FileField; 4]
     ensures { result ≡ spec.entry_of place address mark.now }
 {
-    let kind = if mark.public { 0x010f } else { 0x010e };
+    let kind = if mark.public { PUBLIC } else { PRIVATE };
     [
         FileField::four(place),
-        FileField::two(kind),
+        FileField::two(kind as u128),
         FileField::two(0),
         FileField::eight(address as u128 + 4 * mark.at as u128),
     ]
