@@ -20,7 +20,7 @@ use Rattle.pa_layout.proofs.CheckLaws.{all_met, none_first, meets_of_none, none_
 use Rattle.pa_layout.proofs.Pieces.{Piece, piece, Chained, joined, pieces-whole, pieces-apart, length-joined}
 use Rattle.pa_fixups.specs.declared.tables.DataAt.{DataAt}
 use Rattle.pa_fixups.specs.declared.tables.Fixups.{Fixups}
-use Rattle.pa_fixups.specs.Fixups.{starts_end, imports_at, names_at, header_of, segments_of, pages_of, entries, fixups_bytes, fixups_with, FixupsFit, IsPart, count_in, text_in, taken, starts_checks, table_checks, entry_checks, name_checks, end_check, fixups_flaw}
+use Rattle.pa_fixups.specs.Fixups.{starts_end, imports_at, names_at, header_of, segments_of, pages_of, entries, fixups_bytes, fixups_with, FixupsFit, ImportsFit, IsPart, count_in, text_in, taken, starts_checks, table_checks, entry_checks, name_checks, end_check, fixups_flaw}
 use Rattle.pa_fixups.proofs.Parts.{starts_room, tables_room}
 
 -- ---- the parts at their places
@@ -282,3 +282,10 @@ length-fixups at fixups e = sym (stands at fixups (fixups_bytes at fixups) e ref
 
 pub part_written : (at : DataAt) (fixups : Fixups) (starts : List ℕ) (imports : List (List ℕ)) (before after : List ℕ) → FixupsFit at fixups → starts ≡ fixups.starts → imports ≡ fixups.imports → before ≡ [] → after ≡ before ++ fixups_bytes at (fixups_with starts imports) → IsPart at fixups after
 part_written at fixups starts imports before after fit es ei eb ea = record { bytes_are = ea ∙ rw (eb, es, ei) refl; fit = fit }
+
+-- what pads the starts is zero
+pub padding_zeros : (at : DataAt) (fixups : Fixups) (part : List ℕ) → FixupsFit at fixups → part ≡ fixups_bytes at fixups → IsAt part (starts_end at) (replicate (imports_at at - starts_end at) 0)
+padding_zeros at fixups part fit b = (stands at fixups part fit.pages b).0.padding
+
+pub imports_and_starts : (at : DataAt) (starts : List ℕ) (imports : List (List ℕ)) → ImportsFit at imports → length starts ≡ at.pages → AllFit (map two starts) → FixupsFit at (fixups_with starts imports)
+imports_and_starts at starts imports i l s = record { pages = l; header = i.header; segments = i.segments; before_starts = i.before_starts; starts = s; imports = i.imports; names = i.names }

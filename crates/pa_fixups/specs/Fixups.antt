@@ -77,6 +77,14 @@ pub record FixupsFit (at : DataAt) (fixups : Fixups) : Type 0 where
   pub imports : AllFit (entries 1 fixups.imports)
   pub names : are_names fixups.imports ≡ true
 
+-- imports that fixups can have
+pub record ImportsFit (at : DataAt) (names_of : List (List ℕ)) : Type 0 where
+  pub header : AllFit (header_of at (length names_of))
+  pub segments : AllFit (segments_of at)
+  pub before_starts : AllFit (pages_of at)
+  pub imports : AllFit (entries 1 names_of)
+  pub names : are_names names_of ≡ true
+
 -- the part of an image that holds just these fixups
 pub record IsPart (at : DataAt) (fixups : Fixups) (part : List ℕ) : Type 0 where
   pub bytes_are : part ≡ fixups_bytes at fixups

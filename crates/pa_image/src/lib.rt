@@ -5,5 +5,8 @@ mod image;
 mod parts;
 mod reading;
 
+#[cfg(test)]
+mod tests;
+
 pub use image::Image;
 pub use reading::read_image;

@@ -1,0 +1,140 @@
+use crate::read_image;
+use pa_layout::put_zeros;
+use pa_macho::{Header, Role, header_fits, write_header};
+use pa_num::{Fault, ImageRule};
+use std::alloc::Global;
+use std::test::Fail;
+
+/// The header of an image whose code is `start` and a function of eight words, and which has nothing else.
+const PROGRAM: Header = Header {
+    role: Role::Main,
+    text: 44,
+    stubs: 0,
+    consts: 0,
+    got: 0,
+    cells: 0,
+    fixups: 81,
+    symbols: 16,
+    strings: 7,
+};
+
+const WORDS: [u32; 11] = [
+    0x94000003, 0xd4000061, 0xd4200000, 0xd503237f, 0xd10043ff, 0xa9007bfd, 0xd503201f, 0xa9407bfd,
+    0x910043ff, 0xd2800000, 0xd65f0fff,
+];
+
+/// The symbol of `_main` at the fourth word, and the strings.
+const SYMBOLS: [u8; 23] = [
+    1, 0, 0, 0, 0x0f, 1, 0, 0, 0x0c, 4, 0, 0, 1, 0, 0, 0, 0, b'_', b'm', b'a', b'i', b'n', 0,
+];
+
+/// The bytes of that image, laid out by hand.
+fn program(alloc: Global) -> Result<Vec<u8>, Fail> {
+    if !header_fits(&PROGRAM) {
+        return Err(Fail::from("header"));
+    }
+    let Ok(mut bytes) = write_header(alloc, &PROGRAM) else {
+        return Err(Fail::from("memory"));
+    };
+    for word in WORDS {
+        bytes.extend_from_slice(&word.to_le_bytes())?;
+    }
+    put_zeros(&mut bytes, 0x8000 - 0x42c)?;
+    bytes.extend_from_slice(&FIXUPS)?;
+    put_zeros(&mut bytes, 7)?;
+    bytes.extend_from_slice(&SYMBOLS)?;
+    Ok(bytes)
+}
+
+/// The fixups of an image with one page that has no slot, and without imports.
+const FIXUPS: [u8; 81] = [
+    0, 0, 0, 0, 32, 0, 0, 0, 80, 0, 0, 0, 80, 0, 0, 0, 0, 0, 0, 0, 1, 0, 0, 0, 0, 0, 0, 0, 0, 0, 0,
+    0, 4, 0, 0, 0, 0, 0, 0, 0, 0, 0, 0, 0, 24, 0, 0, 0, 0, 0, 0, 0, 0, 0, 0, 0, 24, 0, 0, 0, 0, 0x40,
+    1, 0, 0, 0x40, 0, 0, 0, 0, 0, 0, 0, 0, 0, 0, 1, 0, 0xff, 0xff, 0,
+];
+
+#[test]
+fn reads_an_image(rt: HostRuntime) -> Result<(), Fail> {
+    let bytes = program(rt.alloc())?;
+    assert_eq!(rt; bytes.len(), 32_879);
+    let Ok(image) = read_image(rt.alloc(), &bytes) else {
+        return Err(Fail::from("an image"));
+    };
+    assert_eq!(rt; image.role, Role::Main);
+    assert_eq!(rt; image.text.as_slice(), WORDS.as_slice());
+    assert_eq!(rt; (image.stubs.len(), image.consts.len(), image.cells.len()), (0, 0, 0));
+    assert_eq!(rt; (image.imports.len(), image.fixes.len(), image.marks.len()), (0, 0, 1));
+    for mark in image.marks.as_slice() {
+        assert_eq!(rt; mark.name.as_slice(), b"_main".as_slice());
+        assert_eq!(rt; (mark.at, mark.public), (3, true));
+    }
+    Ok(())
+}
+
+#[test]
+fn tells_where_a_cut_image_breaks(rt: HostRuntime) -> Result<(), Fail> {
+    let bytes = program(rt.alloc())?;
+    let cuts = [
+        (0, ImageRule::H1, 0),
+        (31, ImageRule::H1, 0),
+        (32, ImageRule::H2, 20),
+        (100, ImageRule::H2, 20),
+        (823, ImageRule::H2, 20),
+        (824, ImageRule::H3, 152),
+        (16_383, ImageRule::H3, 152),
+        (16_384, ImageRule::H3, 464),
+        (32_767, ImageRule::H3, 464),
+        (32_768, ImageRule::H3, 696),
+        (32_878, ImageRule::H3, 696),
+    ];
+    for (len, rule, place) in cuts {
+        assert!(rt; len < bytes.len());
+        let Err(fault) = read_image(rt.alloc(), &bytes[..len]) else {
+            return Err(Fail::from("a flaw"));
+        };
+        assert_eq!(rt; fault, Fault::Refused { rule, place }, "at {len}");
+    }
+    Ok(())
+}
+
+#[test]
+fn tells_the_first_flaw(rt: HostRuntime) -> Result<(), Fail> {
+    // A byte that changes, and the flaw.
+    let changes = [
+        (0, 0, ImageRule::H1, 0),
+        (8, 0, ImageRule::H1, 8),
+        (16, 9, ImageRule::H2, 16),
+        (32, 0x1a, ImageRule::H4, 32),
+        (56, 1, ImageRule::H3, 56),
+        (769, 0, ImageRule::H3, 768),
+        (32_768, 1, ImageRule::F2, 32_768),
+        (32_846, 0, ImageRule::F4, 32_846),
+        (32_848, 1, ImageRule::F2, 32_848),
+        (32_856, 2, ImageRule::H5, 32_856),
+        (32_860, 0x0d, ImageRule::H5, 32_856),
+        (32_864, 0x0d, ImageRule::H5, 32_856),
+        (32_872, 1, ImageRule::H5, 32_872),
+        (32_878, 1, ImageRule::H5, 32_856),
+    ];
+    for (at, byte, rule, place) in changes {
+        let mut bytes = program(rt.alloc())?;
+        assert!(rt; at < bytes.len());
+        bytes[at] = byte;
+        let Err(fault) = read_image(rt.alloc(), &bytes) else {
+            return Err(Fail::from("a flaw"));
+        };
+        assert_eq!(rt; fault, Fault::Refused { rule, place }, "at {at}");
+    }
+    let mut longer = program(rt.alloc())?;
+    longer.push(0)?;
+    let Err(fault) = read_image(rt.alloc(), &longer) else {
+        return Err(Fail::from("a flaw"));
+    };
+    let (rule, place) = (ImageRule::H3, 32_879);
+    assert_eq!(rt; fault, Fault::Refused { rule, place });
+    let mut other = program(rt.alloc())?;
+    assert!(rt; 1036 < other.len());
+    other[1036] = 0;
+    assert!(rt; read_image(rt.alloc(), &other).is_ok());
+    Ok(())
+}
