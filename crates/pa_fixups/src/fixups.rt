@@ -10,7 +10,9 @@ use crate::imports::{check_entries, read_names, read_starts};
 use crate::tables::{
     DataAt, Fixups, STARTS, check_starts, check_tables, header_fields, page_fields, segment_fields,
 };
-use pa_layout::{FileField, all_fit, check, check_zeros, is_name, number_of_four, put_fields, put_zeros};
+use pa_layout::{
+    FileField, all_fit, check, check_zeros, is_name, number_of_four, put_fields, put_zeros,
+};
 use pa_num::{Fault, ImageRule, Memory, Name};
 use std::alloc::{AllocError, Global};
 

@@ -52,11 +52,11 @@ met h p len bytes m =
       strings_size = s.2.2.2.0;
     }
 
-pages_whole : (h : Header) → (places_of h).linkedit ≡ (places_of h).got + 0x4000 * page_count (places_of h)
+pub pages_whole : (h : Header) → (places_of h).linkedit ≡ (places_of h).got + 0x4000 * page_count (places_of h)
 unfolding places_of
 pages_whole h = omega arith
 
-cells_place : (h : Header) → (places_of h).cells ≡ (places_of h).got + up 16 h.got
+pub cells_place : (h : Header) → (places_of h).cells ≡ (places_of h).got + up 16 h.got
 unfolding places_of
 cells_place h = omega arith
 
@@ -98,7 +98,7 @@ sections_same h1 h2 a b c d e = (rw (a, b, c) refl, rw (a, b, c, d, e) refl)
 abbrev data_with : ℕ → ℕ → ℕ → DataAt
 data_with segments offset pages = record { segments = segments; offset = offset; pages = pages }
 
-data_same : (role role' : Role) (p q : Places) → role ≡ role' → p.got ≡ q.got → p.linkedit ≡ q.linkedit → data_at role p ≡ data_at role' q
+pub data_same : (role role' : Role) (p q : Places) → role ≡ role' → p.got ≡ q.got → p.linkedit ≡ q.linkedit → data_at role p ≡ data_at role' q
 data_same role role' p q r g l =
     let a : segment_count role ≡ segment_count role' = ap segment_count r in
     let b : page_count p ≡ page_count q = rw (g, l) refl in

@@ -4,9 +4,11 @@
 mod image;
 mod parts;
 mod reading;
-
+mod sizes;
 #[cfg(test)]
 mod tests;
+mod writing;
 
 pub use image::Image;
 pub use reading::read_image;
+pub use writing::{legal, write_image};

@@ -41,7 +41,7 @@ pub(crate) fn read_words(
 /// Where `__DATA` lies.
 pub(crate) fn data_at(role: Role, places: &Places) -> DataAt
     requires order { Ordered places.now }
-    requires small { places.now.linkedit < 2 ^ 32 }
+    requires small { places.now.linkedit < 2 ^ 40 }
     ensures { result ≡ spec.data_at role places.now }
 {
     let segments = match role {

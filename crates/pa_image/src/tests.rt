@@ -1,7 +1,10 @@
-use crate::read_image;
+use crate::{Image, legal, read_image, write_image};
+use pa_fixups::{Fix, FixKind, Fixes, Sig};
 use pa_layout::put_zeros;
 use pa_macho::{Header, Role, header_fits, write_header};
-use pa_num::{Fault, ImageRule};
+use pa_num::{Bytes, Fault, ImageRule, Name, Names, Words};
+use pa_object::{Mark, Marks};
+use pa_pac::Key;
 use std::alloc::Global;
 use std::test::Fail;
 
@@ -49,8 +52,8 @@ fn program(alloc: Global) -> Result<Vec<u8>, Fail> {
 /// The fixups of an image with one page that has no slot, and without imports.
 const FIXUPS: [u8; 81] = [
     0, 0, 0, 0, 32, 0, 0, 0, 80, 0, 0, 0, 80, 0, 0, 0, 0, 0, 0, 0, 1, 0, 0, 0, 0, 0, 0, 0, 0, 0, 0,
-    0, 4, 0, 0, 0, 0, 0, 0, 0, 0, 0, 0, 0, 24, 0, 0, 0, 0, 0, 0, 0, 0, 0, 0, 0, 24, 0, 0, 0, 0, 0x40,
-    1, 0, 0, 0x40, 0, 0, 0, 0, 0, 0, 0, 0, 0, 0, 1, 0, 0xff, 0xff, 0,
+    0, 4, 0, 0, 0, 0, 0, 0, 0, 0, 0, 0, 0, 24, 0, 0, 0, 0, 0, 0, 0, 0, 0, 0, 0, 24, 0, 0, 0, 0,
+    0x40, 1, 0, 0, 0x40, 0, 0, 0, 0, 0, 0, 0, 0, 0, 0, 1, 0, 0xff, 0xff, 0,
 ];
 
 #[test]
@@ -62,8 +65,14 @@ fn reads_an_image(rt: HostRuntime) -> Result<(), Fail> {
     };
     assert_eq!(rt; image.role, Role::Main);
     assert_eq!(rt; image.text.as_slice(), WORDS.as_slice());
-    assert_eq!(rt; (image.stubs.len(), image.consts.len(), image.cells.len()), (0, 0, 0));
-    assert_eq!(rt; (image.imports.len(), image.fixes.len(), image.marks.len()), (0, 0, 1));
+    assert_eq!(rt;
+        (image.stubs.len(), image.consts.len(), image.cells.len()),
+        (0, 0, 0)
+    );
+    assert_eq!(rt;
+        (image.imports.len(), image.fixes.len(), image.marks.len()),
+        (0, 0, 1)
+    );
     for mark in image.marks.as_slice() {
         assert_eq!(rt; mark.name.as_slice(), b"_main".as_slice());
         assert_eq!(rt; (mark.at, mark.public), (3, true));
@@ -136,5 +145,151 @@ fn tells_the_first_flaw(rt: HostRuntime) -> Result<(), Fail> {
     assert!(rt; 1036 < other.len());
     other[1036] = 0;
     assert!(rt; read_image(rt.alloc(), &other).is_ok());
+    Ok(())
+}
+
+/// The image as data again, written and read.
+fn again(alloc: Global, image: &Image) -> Result<Vec<u8>, Fail> {
+    if !legal(image) {
+        return Err(Fail::from("legal"));
+    }
+    let Ok(bytes) = write_image(alloc, image) else {
+        return Err(Fail::from("memory"));
+    };
+    Ok(bytes)
+}
+
+#[test]
+fn writes_what_it_reads(rt: HostRuntime) -> Result<(), Fail> {
+    let bytes = program(rt.alloc())?;
+    let Ok(image) = read_image(rt.alloc(), &bytes) else {
+        return Err(Fail::from("an image"));
+    };
+    let written = again(rt.alloc(), &image)?;
+    assert_eq!(rt; written.as_slice(), bytes.as_slice());
+    Ok(())
+}
+
+const SIG: Sig = Sig {
+    key: Key::IA,
+    addr: true,
+    disc: 0,
+};
+
+fn mark(alloc: Global, name: &[u8], at: u32, public: bool) -> Result<Mark, Fail> {
+    let name = Name::from_slice(alloc, name)?;
+    Ok(Mark { name, at, public })
+}
+
+/// An image with every part, whose slots stand on both sides of a page's border.
+fn every_part(alloc: Global, role: Role) -> Result<Image, Fail> {
+    let mut marks = Marks::new(alloc);
+    marks.push(mark(alloc, b"_main", 3, true)?)?;
+    marks.push(mark(alloc, b"_helper", 7, false)?)?;
+    let mut imports = Names::new(alloc);
+    imports.push(Name::from_slice(alloc, b"_putchar")?)?;
+    let import = FixKind::AuthBind {
+        ordinal: 0,
+        sig: SIG,
+    };
+    let place = FixKind::Rebase {
+        target: role.base() + 0x400,
+        high8: 0,
+    };
+    let function = FixKind::AuthRebase {
+        target: 0x40c,
+        sig: SIG,
+    };
+    let fixes = [
+        Fix {
+            at: 0,
+            kind: import,
+        },
+        Fix {
+            at: 0x3ff8,
+            kind: place,
+        },
+        Fix {
+            at: 0x4000,
+            kind: function,
+        },
+        Fix {
+            at: 0x4010,
+            kind: place,
+        },
+    ];
+    let mut cells = Vec::new(alloc);
+    put_zeros(&mut cells, 0x4010)?;
+    cells.extend_from_slice(&[1, 2, 3, 4, 5])?;
+    Ok(Image {
+        role,
+        text: Words::from_slice(alloc, &WORDS)?,
+        stubs: Words::from_slice(alloc, &[1, 2, 3, 4])?,
+        consts: Bytes::from_slice(alloc, b"text")?,
+        got: 8,
+        cells: Bytes::from_vec(cells),
+        marks,
+        imports,
+        fixes: Fixes::from_slice(alloc, &fixes)?,
+    })
+}
+
+#[test]
+fn reads_what_it_writes(rt: HostRuntime) -> Result<(), Fail> {
+    for role in [Role::Main, Role::Library] {
+        let image = every_part(rt.alloc(), role)?;
+        let bytes = again(rt.alloc(), &image)?;
+        let Ok(read) = read_image(rt.alloc(), &bytes) else {
+            return Err(Fail::from("an image"));
+        };
+        assert_eq!(rt; read.role, role);
+        assert_eq!(rt; read.fixes.as_slice(), image.fixes.as_slice());
+        assert_eq!(rt; read.cells.as_slice(), image.cells.as_slice());
+        assert_eq!(rt; read.consts.as_slice(), b"text".as_slice());
+        assert_eq!(rt; (read.got, read.imports.len(), read.marks.len()), (8, 1, 2));
+        let twice = again(rt.alloc(), &read)?;
+        assert_eq!(rt; twice.as_slice(), bytes.as_slice());
+    }
+    Ok(())
+}
+
+#[test]
+fn tells_a_slot_without_a_fix(rt: HostRuntime) -> Result<(), Fail> {
+    let mut image = every_part(rt.alloc(), Role::Main)?;
+    image.got = 16;
+    image.fixes = Fixes::from_slice(
+        rt.alloc(),
+        &[Fix {
+            at: 0,
+            kind: FixKind::AuthBind {
+                ordinal: 0,
+                sig: SIG,
+            },
+        }],
+    )?;
+    let mut bytes = again(rt.alloc(), &image)?;
+    assert!(rt; 0x400d < bytes.len());
+    bytes[0x400d] = 1;
+    let Err(fault) = read_image(rt.alloc(), &bytes) else {
+        return Err(Fail::from("a flaw"));
+    };
+    let (rule, place) = (ImageRule::H3, 0x400d);
+    assert_eq!(rt; fault, Fault::Refused { rule, place });
+    Ok(())
+}
+
+#[test]
+fn writes_legal_images_alone(rt: HostRuntime) -> Result<(), Fail> {
+    let image = every_part(rt.alloc(), Role::Main)?;
+    assert!(rt; legal(&image));
+    let shifted = Image { got: 12, ..image };
+    assert!(rt; !legal(&shifted));
+    let mut hidden = every_part(rt.alloc(), Role::Main)?;
+    assert!(rt; 0x3fe8 < hidden.cells.len());
+    hidden.cells.set(0x3fe8, 1);
+    assert!(rt; !legal(&hidden));
+    let mut twice = every_part(rt.alloc(), Role::Main)?;
+    twice.marks.push(mark(rt.alloc(), b"_main", 8, true)?)?;
+    assert!(rt; !legal(&twice));
     Ok(())
 }

@@ -1,5 +1,6 @@
 ghost use Rattle.std.specs.Prelude.{◌≡◌, ◌≤◌, ◌<◌, ◌+◌, ◌*◌, ◌++◌, ◌^◌, ◌↔◌, IsTrue, true, length, map, IfOk, OnOk, List};
 ghost use Rattle.pa_fixups.specs.Chain.{AreWritable, with_slots};
+ghost use Rattle.pa_layout.specs.Fields.{AllFit, two};
 ghost use Rattle.pa_slots.specs.Pages as spec;
 ghost use Rattle.pa_slots.specs.Pages.{page_size, before, from, cells_from, of_page, page_slots, later_slots};
 ghost use Rattle.pa_slots.specs.Slots.{AreSlots, plain_of, slots_with};
@@ -185,6 +186,8 @@ pub fn write_slots(
     requires fits { SlotsFit at.now (slots_with cells.now fixes.now) }
     ensures held { IfOk result (λ made. AreSlots at.now made.starts (slots_with cells.now fixes.now) made.bytes.items) }
     ensures pages { IfOk result (λ made. length made.starts ≡ pages) }
+    ensures size { IfOk result (λ made. length made.bytes.items ≡ page_size * pages) }
+    ensures starts { IfOk result (λ made. AllFit (map two made.starts)) }
 {
     let plain = plain(alloc, at, cells, pages)?;
     let written = write_pages(alloc, fixes, &plain, pages)?;
