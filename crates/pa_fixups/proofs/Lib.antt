@@ -2,6 +2,7 @@ pub mod Cuts
 pub mod Fitting
 pub mod Parts
 pub mod SlotLaws
+pub mod Told
 pub mod Trip
 pub mod Walk
 pub mod Whole

@@ -20,7 +20,7 @@ use Rattle.pa_layout.proofs.CheckLaws.{all_met, none_first, meets_of_none, none_
 use Rattle.pa_layout.proofs.Pieces.{Piece, piece, Chained, joined, pieces-whole, pieces-apart, length-joined}
 use Rattle.pa_fixups.specs.declared.tables.DataAt.{DataAt}
 use Rattle.pa_fixups.specs.declared.tables.Fixups.{Fixups}
-use Rattle.pa_fixups.specs.Fixups.{starts_end, imports_at, names_at, header_of, segments_of, pages_of, entries, fixups_bytes, FixupsFit, IsPart, count_in, text_in, taken, starts_checks, table_checks, entry_checks, name_checks, end_check, fixups_flaw}
+use Rattle.pa_fixups.specs.Fixups.{starts_end, imports_at, names_at, header_of, segments_of, pages_of, entries, fixups_bytes, fixups_with, FixupsFit, ImportsFit, IsPart, count_in, text_in, taken, starts_checks, table_checks, entry_checks, name_checks, end_check, fixups_flaw}
 use Rattle.pa_fixups.proofs.Parts.{starts_room, tables_room}
 
 -- ---- the parts at their places
@@ -208,9 +208,6 @@ names_none (name ∷ names) place at part rest h v =
     let one : first (name_checks (suc (length names)) place at part text) part ≡ None = none_then _ _ here (rw (b.rest_is, b.length_is) rest_none) in
     subst (λ (t : List ℕ). first (name_checks (suc (length names)) place at part t) part ≡ None) (sym (append_assoc name (0 ∷ ended names) rest)) one
 
-abbrev fixups_with : List ℕ → List (List ℕ) → Fixups
-fixups_with starts imports = record { starts = starts; imports = imports }
-
 told_count : (at : DataAt) (count : ℕ) (part : List ℕ) → IsAt part 0 (spelled (header_of at count)) × AllFit (header_of at count) → count_in part ≡ count
 unfolding header_of
 told_count at count part h = (values_at 0 (header_of at count) part h).1.1.1.1.0
@@ -273,11 +270,22 @@ unfolding header_of
 count_small at count h = omega (arith, h.2.2.2.2.0)
 
 -- the parts, put one behind the other
-pub parts_put : (at : DataAt) (fixups : Fixups) (o0 o1 o2 o3 o4 o5 o6 o7 o8 : List ℕ) → FixupsFit at fixups → o0 ≡ [] → o1 ≡ o0 ++ spelled (header_of at (length fixups.imports)) → o2 ≡ o1 ++ spelled (segments_of at)
-    → o3 ≡ o2 ++ spelled (pages_of at) → o4 ≡ o3 ++ spelled (map two fixups.starts) → o5 ≡ o4 ++ replicate (imports_at at - starts_end at) 0 → o6 ≡ o5 ++ spelled (entries 1 fixups.imports)
-    → o7 ≡ o6 ++ (0 ∷ []) → o8 ≡ o7 ++ ended fixups.imports → IsPart at fixups o8
+pub parts_put : (at : DataAt) (starts : List ℕ) (imports : List (List ℕ)) (o0 o1 o2 o3 o4 o5 o6 o7 o8 : List ℕ) → o1 ≡ o0 ++ spelled (header_of at (length imports)) → o2 ≡ o1 ++ spelled (segments_of at)
+    → o3 ≡ o2 ++ spelled (pages_of at) → o4 ≡ o3 ++ spelled (map two starts) → o5 ≡ o4 ++ replicate (imports_at at - starts_end at) 0 → o6 ≡ o5 ++ spelled (entries 1 imports)
+    → o7 ≡ o6 ++ (0 ∷ []) → o8 ≡ o7 ++ ended imports → o8 ≡ o0 ++ fixups_bytes at (fixups_with starts imports)
 unfolding fixups_bytes
-parts_put at fixups o0 o1 o2 o3 o4 o5 o6 o7 o8 fit e0 e1 e2 e3 e4 e5 e6 e7 e8 = record {
-  bytes_are = rw (e8, e7, e6, e5, e4, e3, e2, e1, e0) (simp (append_assoc, append-nil));
-  fit = fit;
-}
+parts_put at starts imports o0 o1 o2 o3 o4 o5 o6 o7 o8 e1 e2 e3 e4 e5 e6 e7 e8 = rw (e8, e7, e6, e5, e4, e3, e2, e1) (simp (append_assoc, append-nil))
+
+-- how many bytes fixups have
+pub length-fixups : (at : DataAt) (fixups : Fixups) → length fixups.starts ≡ at.pages → length (fixups_bytes at fixups) ≡ names_at at (length fixups.imports) + 1 + length (ended fixups.imports)
+length-fixups at fixups e = sym (stands at fixups (fixups_bytes at fixups) e refl).1
+
+pub part_written : (at : DataAt) (fixups : Fixups) (starts : List ℕ) (imports : List (List ℕ)) (before after : List ℕ) → FixupsFit at fixups → starts ≡ fixups.starts → imports ≡ fixups.imports → before ≡ [] → after ≡ before ++ fixups_bytes at (fixups_with starts imports) → IsPart at fixups after
+part_written at fixups starts imports before after fit es ei eb ea = record { bytes_are = ea ∙ rw (eb, es, ei) refl; fit = fit }
+
+-- what pads the starts is zero
+pub padding_zeros : (at : DataAt) (fixups : Fixups) (part : List ℕ) → FixupsFit at fixups → part ≡ fixups_bytes at fixups → IsAt part (starts_end at) (replicate (imports_at at - starts_end at) 0)
+padding_zeros at fixups part fit b = (stands at fixups part fit.pages b).0.padding
+
+pub imports_and_starts : (at : DataAt) (starts : List ℕ) (imports : List (List ℕ)) → ImportsFit at imports → length starts ≡ at.pages → AllFit (map two starts) → FixupsFit at (fixups_with starts imports)
+imports_and_starts at starts imports i l s = record { pages = l; header = i.header; segments = i.segments; before_starts = i.before_starts; starts = s; imports = i.imports; names = i.names }

@@ -64,6 +64,9 @@ fixups_bytes at fixups =
     (spelled (header_of at count) ∷ spelled (segments_of at) ∷ spelled (pages_of at) ∷ spelled (map two fixups.starts)
     ∷ replicate (imports_at at - starts_end at) 0 ∷ spelled (entries 1 fixups.imports) ∷ (0 ∷ []) ∷ ended fixups.imports ∷ [])
 
+abbrev pub fixups_with : List ℕ → List (List ℕ) → Fixups
+fixups_with starts imports = record { starts = starts; imports = imports }
+
 -- there is a start for each page, each number has room in its field, and no name has a zero byte
 pub record FixupsFit (at : DataAt) (fixups : Fixups) : Type 0 where
   pub pages : length fixups.starts ≡ at.pages
@@ -73,6 +76,14 @@ pub record FixupsFit (at : DataAt) (fixups : Fixups) : Type 0 where
   pub starts : AllFit (map two fixups.starts)
   pub imports : AllFit (entries 1 fixups.imports)
   pub names : are_names fixups.imports ≡ true
+
+-- imports that fixups can have
+pub record ImportsFit (at : DataAt) (names_of : List (List ℕ)) : Type 0 where
+  pub header : AllFit (header_of at (length names_of))
+  pub segments : AllFit (segments_of at)
+  pub before_starts : AllFit (pages_of at)
+  pub imports : AllFit (entries 1 names_of)
+  pub names : are_names names_of ≡ true
 
 -- the part of an image that holds just these fixups
 pub record IsPart (at : DataAt) (fixups : Fixups) (part : List ℕ) : Type 0 where

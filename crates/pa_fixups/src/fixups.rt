@@ -1,15 +1,18 @@
-ghost use Rattle.std.specs.Prelude.{◌≡◌, ◌++◌, map, replicate, IfOk, OnOk};
-ghost use Rattle.pa_layout.specs.Fields.{AllFit, spelled, two};
+ghost use Rattle.std.specs.Prelude.{◌≡◌, ◌<◌, ◌+◌, ◌*◌, ◌^◌, ◌++◌, ◌↔◌, IsTrue, length, map, replicate, IfOk, OnOk};
+ghost use Rattle.pa_layout.specs.Fields.{AllFit, all_have_room, spelled, two};
+ghost use Rattle.pa_layout.specs.Names as spec;
 ghost use Rattle.pa_layout.specs.Names.{ended};
-ghost use Rattle.pa_layout.specs.Flaws.{AnswersOrMemory, GivesOrMemory};
+ghost use Rattle.pa_layout.specs.Flaws.{AnswersOrMemory, GivesOrMemory, IfRefused};
 ghost use Rattle.pa_fixups.specs.declared.tables.Fixups.{Fixups};
-ghost use Rattle.pa_fixups.specs.Fixups.{FixupsFit, IsPart, entries, fixups_flaw, taken};
+ghost use Rattle.pa_fixups.specs.Fixups.{FixupsFit, ImportsFit, IsPart, entries, fixups_bytes, fixups_flaw, fixups_with, taken};
 
 use crate::imports::{check_entries, read_names, read_starts};
 use crate::tables::{
     DataAt, Fixups, STARTS, check_starts, check_tables, header_fields, page_fields, segment_fields,
 };
-use pa_layout::{FileField, check, check_zeros, number_of_four, put_fields, put_zeros};
+use pa_layout::{
+    FileField, all_fit, check, check_zeros, is_name, number_of_four, put_fields, put_zeros,
+};
 use pa_num::{Fault, ImageRule, Memory, Name};
 use std::alloc::{AllocError, Global};
 
@@ -39,6 +42,7 @@ pub fn read_fixups(alloc: Global, part: &[u8], at: DataAt) -> Result<Fixups, Fau
     ensures found { IfOk result (λ fixups. IsPart at fixups part.now) }
     ensures only { (fixups : Fixups) → IsPart at fixups part.now → GivesOrMemory fixups result }
     ensures flaw { AnswersOrMemory result (fixups_flaw at part.now) }
+    ensures place { IfRefused result (λ rule place. place < 2 ^ 40 + 4 * at.pages + length part.now) }
 {
     read_parts(alloc, part, at)
 }
@@ -78,21 +82,80 @@ fn put_names(out: &mut Vec<u8>, names: &[Name]) -> Result<(), AllocError>
     Ok(())
 }
 
+/// Appends the part of an image that holds these starts and imports.
+pub fn put_fixups(
+    out: &mut Vec<u8>,
+    starts: &[u16],
+    imports: &[Name],
+    at: DataAt,
+) -> Result<(), AllocError>
+    requires { FixupsFit at (fixups_with starts.now imports.now) }
+    ensures { OnOk result (out.new.items ≡ out.old.items ++ fixups_bytes at (fixups_with starts.now imports.now)) }
+{
+    put_fields(out, &header_fields(at, imports.len() as u32))?;
+    put_fields(out, &segment_fields(at))?;
+    put_fields(out, &page_fields(at))?;
+    put_starts(out, starts)?;
+    put_zeros(out, at.imports() - at.starts_end())?;
+    put_entries(out, imports)?;
+    put_zeros(out, 1)?;
+    put_names(out, imports)?;
+    Ok(())
+}
+
+/// The entries of imports whose names begin behind one zero byte have room for their numbers.
+fn entries_fit(names: &[Name]) -> bool
+    ensures { result ≡ all_have_room (entries 1 names.now) }
+{
+    let mut place: u128 = 1;
+    for name in names {
+        if !FileField::four(1 + 512 * place).fits() {
+            return false;
+        }
+        place += name.len() as u128 + 1;
+    }
+    true
+}
+
+/// No name has a zero byte.
+fn are_names(names: &[Name]) -> bool
+    ensures { result ≡ spec.are_names names.now }
+{
+    for name in names {
+        if !is_name(name.as_slice()) {
+            return false;
+        }
+    }
+    true
+}
+
+/// The fixups of an image can have these imports.
+#[tactic(auto, using(crate::proofs::Fitting::room_fits, crate::proofs::Fitting::fits_room, crate::proofs::Fitting::count_fits))]
+pub fn imports_fit(imports: &[Name], at: DataAt) -> bool
+    ensures { IsTrue result ↔ ImportsFit at imports.now }
+{
+    if imports.len() >= 0x1_0000_0000 {
+        return false;
+    }
+    all_fit(&header_fields(at, imports.len() as u32))
+        && all_fit(&segment_fields(at))
+        && all_fit(&page_fields(at))
+        && entries_fit(imports)
+        && are_names(imports)
+}
+
 /// The part of an image that holds the fixups.
 pub fn write_fixups(alloc: Global, fixups: &Fixups, at: DataAt) -> Result<Vec<u8>, Memory>
     requires { FixupsFit at fixups.now }
     ensures { IfOk result (λ part. IsPart at fixups.now part.items) }
 {
-    let names = fixups.imports.as_slice();
     let mut out = Vec::new(alloc);
-    put_fields(&mut out, &header_fields(at, names.len() as u32))?;
-    put_fields(&mut out, &segment_fields(at))?;
-    put_fields(&mut out, &page_fields(at))?;
-    put_starts(&mut out, fixups.starts.as_slice())?;
-    put_zeros(&mut out, at.imports() - at.starts_end())?;
-    put_entries(&mut out, names)?;
-    put_zeros(&mut out, 1)?;
-    put_names(&mut out, names)?;
+    put_fixups(
+        &mut out,
+        fixups.starts.as_slice(),
+        fixups.imports.as_slice(),
+        at,
+    )?;
     Ok(out)
 }
 

@@ -12,7 +12,7 @@ mod write;
 
 pub use bounds::Bounds;
 pub use chain::read_chain;
-pub use fixups::{read_fixups, write_fixups};
+pub use fixups::{imports_fit, put_fixups, read_fixups, write_fixups};
 pub use kind::{Fix, FixKind, Fixes, Sig};
 pub use slot::{read_slot, write_slot};
 pub use tables::{DataAt, Fixups, Starts};

@@ -339,6 +339,19 @@ front_enough h bytes f b g e =
       gaps = g;
     }
 
+-- the front ends with zeros
+pub front_zeros : (h : Header) (bytes : List ℕ) → IsAt bytes 0 (front_of h) → IsAt bytes (commands_end h.role) (replicate (0x400 - commands_end h.role) 0)
+unfolding front_of
+front_zeros h bytes b =
+    let p = places_of h in
+    let role = h.role in
+    let whole : IsAt bytes 0 (joined (pieces h p p.end)) = subst (IsAt bytes 0) (sym (front_joined h p)) b in
+    let all = pieces-apart bytes 0 (pieces h p p.end) 0x400 (chained h p p.end) whole in
+    let all1 = AllAt-second bytes (start_pieces role p.end) _ all in
+    let all2 = AllAt-second bytes (page_zero_pieces role p.end) _ all1 in
+    let all3 = AllAt-second bytes (segment_pieces h p p.end) _ all2 in
+    (AllAt-second bytes (entry_pieces role) (library_pieces role) all3).1.1.0
+
 pub is_front : (h : Header) (front : List ℕ) → HeaderFits h → front ≡ front_of h → IsFront h front
 is_front h front f e = record {
   bytes_are = e;

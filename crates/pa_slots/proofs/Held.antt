@@ -1,10 +1,10 @@
 -- Pages that are written hold the slots and the bytes, and pages that hold them are so written.
-use Rattle.std.proofs.Common.{replicate, ◌≡◌, ℕ, zero, suc, ◌+◌, ◌-◌, ◌*◌, ◌≤◌, ◌<◌, Bool, true, false, cond, eqb, ltb, ◌||◌, List, [], ◌∷◌, ◌++◌, length, take, drop, get_or, None, refl, sym, ap, subst, ◌∙◌, append_assoc, arith, map}
+use Rattle.std.proofs.Common.{replicate, ◌≡◌, ℕ, zero, suc, ◌+◌, ◌-◌, ◌*◌, ◌^◌, ◌≤◌, ◌<◌, Bool, true, false, cond, eqb, ltb, ◌||◌, List, [], ◌∷◌, ◌++◌, length, take, drop, get_or, None, refl, sym, ap, subst, ◌∙◌, append_assoc, arith, map}
 use Rattle.std.proofs.lemmas.Bool.{eqb-true, eq-eqb, ltb-true, ltb-false, lt-ltb, le-ltb}
 use Rattle.std.proofs.lemmas.List.{length-take-le, length-take, length-drop, length-append, take_at, drop_at, take-append-drop, drop-drop, drop-append-le, drop-replicate, length-replicate, nil_from_length}
 use Rattle.byteorder.specs.Endian.{little_from, little_number}
 use Rattle.byteorder.specs.Numbers.{little_from-append}
-use Rattle.pa_layout.specs.Fields.{number, IsAt}
+use Rattle.pa_layout.specs.Fields.{number, two, IsAt, AllFit as FieldsAllFit}
 use Rattle.pa_layout.proofs.Laws.{IsBytes, IsAt-itself, number-within}
 use Rattle.pa_layout.proofs.Pieces.{joined, pieces-apart, length-joined}
 use Rattle.pa_fixups.specs.declared.kind.Fix.{Fix}
@@ -345,3 +345,22 @@ pages_spelled at i (start ∷ starts) fixes bytes plain b p =
 pub slots_spelled : (at : SlotsAt) (starts : List ℕ) (slots : Slots) (bytes : List ℕ) → IsBytes bytes → AreSlots at starts slots bytes
     → (bytes ≡ pages_of 0 (length starts) slots.fixes (plain_of at (length starts) slots.cells)) × (starts ≡ starts_of 0 (length starts) slots.fixes)
 slots_spelled at starts slots bytes b s = pages_spelled at 0 starts slots.fixes bytes (plain_of at (length starts) slots.cells) b s.pages
+
+-- ---- sizes
+
+pub length-pages_of : (i n : ℕ) (fixes : List Fix) (plain : List ℕ) → PagesWritable i n fixes → length plain ≡ page_size * n → length (pages_of i n fixes plain) ≡ page_size * n
+length-pages_of i zero fixes plain w e = omega arith
+length-pages_of i (suc n) fixes plain w e =
+    let front = take page_size plain in
+    let lf : length front ≡ page_size = length-take-le page_size plain (omega arith) in
+    let lw : length (with_slots front (page_slots i fixes)) ≡ page_size = length-with_slots page_size (page_slots i fixes) front lf w.0 in
+    let ih = length-pages_of (i + 1) n (later_slots i fixes) (drop page_size plain) w.1 (omega (arith, length-drop page_size plain)) in
+    omega (arith, length-append (with_slots front (page_slots i fixes)) (pages_of (i + 1) n (later_slots i fixes) (drop page_size plain)))
+
+start_small : (slots : List Fix) → AreWritable page_size slots → start_of slots < 2 ^ 16
+start_small [] w = omega arith
+start_small (fix ∷ fixes) w = let i = w.0.inside in omega arith
+
+pub starts_fit : (i n : ℕ) (fixes : List Fix) → PagesWritable i n fixes → FieldsAllFit (map two (starts_of i n fixes))
+starts_fit i zero fixes w = tt
+starts_fit i (suc n) fixes w = (start_small (page_slots i fixes) w.0, refl, starts_fit (i + 1) n (later_slots i fixes) w.1)

@@ -1,3 +1,4 @@
+pub mod Beside
 pub mod Chains
 pub mod Fits
 pub mod Held

@@ -1,12 +1,13 @@
 ghost use Rattle.std.specs.Prelude.{◌≡◌, ◌≤◌, ◌<◌, ◌+◌, ◌*◌, ◌++◌, ◌^◌, ◌↔◌, IsTrue, true, length, map, IfOk, OnOk, List};
 ghost use Rattle.pa_fixups.specs.Chain.{AreWritable, with_slots};
+ghost use Rattle.pa_layout.specs.Fields.{AllFit, two};
 ghost use Rattle.pa_slots.specs.Pages as spec;
 ghost use Rattle.pa_slots.specs.Pages.{page_size, before, from, cells_from, of_page, page_slots, later_slots};
 ghost use Rattle.pa_slots.specs.Slots.{AreSlots, plain_of, slots_with};
 ghost use Rattle.pa_slots.specs.Writing as written;
 ghost use Rattle.pa_slots.specs.Writing.{SlotFits, EachFits, SlotsFit, PagesWritable};
 
-use crate::slots::{PAGE, Slots, SlotsAt};
+use crate::slots::{PAGE, SlotsAt};
 use pa_fixups::{Fix, Fixes, Starts, write_chain};
 use pa_layout::{number_of_eight, put_zeros};
 use pa_num::Memory;
@@ -45,15 +46,14 @@ fn slot_fits(at: &SlotsAt, cells: &[u8], fix: &Fix) -> bool
     at.bounds(page).fits(PAGE, &in_its_page(fix)) && is_clear(at, cells, fix)
 }
 
-/// `__DATA` can hold these slots and bytes.
-pub fn slots_fit(at: &SlotsAt, slots: &Slots) -> bool
-    ensures { IsTrue result ↔ SlotsFit at.now slots.now }
+/// `__DATA` can hold these bytes of `__data` and these slots.
+pub fn slots_fit(at: &SlotsAt, cells: &[u8], fixes: &[Fix]) -> bool
+    ensures { IsTrue result ↔ SlotsFit at.now (slots_with cells.now fixes.now) }
 {
-    let cells = slots.cells.as_slice();
     if cells.len() != at.cells as usize {
         return false;
     }
-    let mut rest = slots.fixes.as_slice();
+    let mut rest = fixes;
     while let [fix, behind @ ..] = rest {
         if let [next, ..] = behind {
             if next.at <= fix.at {
@@ -173,8 +173,8 @@ fn plain(alloc: Global, at: &SlotsAt, cells: &[u8], pages: u32) -> Result<Vec<u8
     Ok(bytes)
 }
 
-/// The pages that hold these bytes of `__data` and these slots.
-fn write_parts(
+/// The bytes of `__DATA` of so many pages that hold these bytes of `__data` and these slots, and the starts of the pages.
+pub fn write_slots(
     alloc: Global,
     at: &SlotsAt,
     cells: &[u8],
@@ -186,30 +186,10 @@ fn write_parts(
     requires fits { SlotsFit at.now (slots_with cells.now fixes.now) }
     ensures held { IfOk result (λ made. AreSlots at.now made.starts (slots_with cells.now fixes.now) made.bytes.items) }
     ensures pages { IfOk result (λ made. length made.starts ≡ pages) }
+    ensures size { IfOk result (λ made. length made.bytes.items ≡ page_size * pages) }
+    ensures starts { IfOk result (λ made. AllFit (map two made.starts)) }
 {
     let plain = plain(alloc, at, cells, pages)?;
     let written = write_pages(alloc, fixes, &plain, pages)?;
     Ok(written)
-}
-
-/// The bytes of `__DATA` of so many pages that hold these slots and bytes, and the starts of the pages.
-pub fn write_slots(
-    alloc: Global,
-    at: &SlotsAt,
-    slots: &Slots,
-    pages: u32,
-) -> Result<Written, Memory>
-    requires pages { pages < 2 ^ 16 }
-    requires inside { cells_from at.now + at.now.cells ≤ page_size * pages }
-    requires fits { SlotsFit at.now slots.now }
-    ensures held { IfOk result (λ made. AreSlots at.now made.starts slots.now made.bytes.items) }
-    ensures pages { IfOk result (λ made. length made.starts ≡ pages) }
-{
-    write_parts(
-        alloc,
-        at,
-        slots.cells.as_slice(),
-        slots.fixes.as_slice(),
-        pages,
-    )
 }

@@ -1,0 +1,4 @@
+pub mod Bytes
+pub mod Known
+pub mod Reading
+pub mod Writing

@@ -1,0 +1,14 @@
+//! Whole images, as data and as bytes, read and written.
+#![tactic(auto)]
+
+mod image;
+mod parts;
+mod reading;
+mod sizes;
+#[cfg(test)]
+mod tests;
+mod writing;
+
+pub use image::Image;
+pub use reading::read_image;
+pub use writing::{legal, write_image};
