@@ -94,6 +94,28 @@ fn each_rule(rt: HostRuntime) {
             ("movz x0, #99999999999999999999\n", AsmRule::A2, 1),
             ("movz x0, #0, lsl #8\n", AsmRule::A2, 1),
             ("movz x0, #0, lsl #64\n", AsmRule::A2, 1),
+            ("movz x0, #1, lsl #-16\n", AsmRule::A2, 1),
+            ("ldp xzr, xzr, [sp, #0]\n", AsmRule::A2, 1),
+            ("add x0, x1, #5000\n", AsmRule::A2, 1),
+            ("subs x0, sp, #5000\n", AsmRule::A2, 1),
+        ],
+    );
+}
+
+/// A line that breaks two rules, and lines that break one each: the first line, and on it A1 before A2.
+#[test]
+fn the_first_of_two(rt: HostRuntime) {
+    assert_refused(
+        &rt,
+        rt.alloc(),
+        &[
+            ("movz sp, #65536\n", AsmRule::A1, 1),
+            ("add xzr, x1, #5000\n", AsmRule::A1, 1),
+            ("frob\nb here\n", AsmRule::A1, 1),
+            ("a:\nb here\na:\n", AsmRule::A3, 2),
+            ("movz x0, #65536\na:\na:\n", AsmRule::A2, 1),
+            ("a:\na:\nfrob\n", AsmRule::A4, 2),
+            (".globl a\na:\n", AsmRule::A4, 2),
         ],
     );
 }
@@ -128,6 +150,18 @@ fn lines_of_no_form(rt: HostRuntime) {
         "ldr x0, [x1]",
         "ldr x0, [xzr, #0]",
         "frob\u{e9}",
+        "\r",
+        "nop\t",
+        "ret",
+        "movz w0, #1",
+        "movz X0, #1",
+        "movz x0, #0x10",
+        "movz x0, # 1",
+        "movz x0, #1, lsl #016",
+        "bcond eq, a",
+        "adrp x0, f@PAGEOFF",
+        "adrp x0, f@GOTPAGE",
+        "add x0, x1, f@PAGE",
     ] {
         assert_refused(&rt, rt.alloc(), &[(text, AsmRule::A1, 1)]);
     }
@@ -139,9 +173,10 @@ fn other_lines_give_nothing(rt: HostRuntime) {
     assert_words(
         &rt,
         rt.alloc(),
-        "\n// a comment, \u{e9}\na:\n.globl b\n\nnop",
+        "\n// a comment, \u{e9}\r\na:\n.globl b\n\nnop",
         &[0xd503_201f],
     );
+    assert_words(&rt, rt.alloc(), "add x0, x1, #0, lsl #12", &[0x9140_0020]);
 }
 
 #[test]
@@ -152,6 +187,18 @@ fn labels_before_and_behind(rt: HostRuntime) {
         rt.alloc(),
         "cbz x1, b\nnop\nb:\nbcond #1, b\n",
         &[0xb400_0041, 0xd503_201f, 0x5400_0001],
+    );
+    assert_words(
+        &rt,
+        rt.alloc(),
+        "a:\nnop\ncbz x1, a\ncbnz x1, a\nbcond #1, a\nb a\n",
+        &[
+            0xd503_201f,
+            0xb4ff_ffe1,
+            0xb5ff_ffc1,
+            0x54ff_ffa1,
+            0x17ff_fffc,
+        ],
     );
     assert_words(
         &rt,
