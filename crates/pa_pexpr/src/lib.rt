@@ -13,3 +13,6 @@ pub use name::{begins_type, is_type, plain_name};
 pub use piece::texts;
 pub use reader::{Reader, needs};
 pub use rule::{Level, Naming, ParseError, SynRule};
+
+#[cfg(test)]
+mod tests;
