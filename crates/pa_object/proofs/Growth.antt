@@ -33,7 +33,7 @@ use Rattle.pa_object.specs.declared.script.Item.{Item}
 use Rattle.pa_object.specs.Machine.{Machine, next}
 use Rattle.pa_object.specs.Traps.{trap_of}
 use Rattle.pa_object.specs.Effects.{effect, called, prints, reads, exits}
-use Rattle.pa_object.specs.Script.{deed_fits, size_of_deed, fits_item, all_fit, ordered_from}
+use Rattle.pa_object.specs.Script.{deed_fits, all_fit, ordered_from}
 use Rattle.pa_object.specs.Run.{Script, ends, step, on_word, on_instr, unless_trap, unless_ended, done_to, applied, applied_all, advance, advance_by}
 use Rattle.pa_a64.specs.Decoding.{decoded}
 use Rattle.pa_mem.specs.Memory.{fetch}
@@ -61,10 +61,10 @@ pub record Leaves (n : ℕ) (old new : Machine) : Type 0 where
 -- the same output, and these entries
 logs : (old new : Machine) (entries : Log) → length entries ≤ 2 → new.log ≡ entries ++ old.log → new.output ≡ old.output → map outline new.memory ≡ map outline old.memory → Leaves 1 old new
 logs old new entries few l o m = record {
-    output = record { bytes = []; grown = o ∙ sym (append-nil old.output); few = omega arith };
-    log = record { entries = entries; grown = l; few = few };
-    memory = m;
-  }
+  output = record { bytes = []; grown = o ∙ sym (append-nil old.output); few = omega arith };
+  log = record { entries = entries; grown = l; few = few };
+  memory = m;
+}
 
 -- the same output and log
 keeps : (old new : Machine) → new.log ≡ old.log → new.output ≡ old.output → map outline new.memory ≡ map outline old.memory → Leaves 1 old new
@@ -82,10 +82,10 @@ called_leaves number m = at (number == 1) (number == 2)
 
     at : (a b : Bool) → Leaves 1 m (cond a (next (prints m)) (cond b (next (reads m)) (exits m)))
     at true b = record {
-        output = record { bytes = _; grown = refl; few = omega arith };
-        log = record { entries = []; grown = refl; few = omega arith };
-        memory = refl;
-      }
+      output = record { bytes = _; grown = refl; few = omega arith };
+      log = record { entries = []; grown = refl; few = omega arith };
+      memory = refl;
+    }
     at false b = other b
 
 pub effect_leaves : (code : Code) (instr : Instr) (m : Machine) → Leaves 1 m (effect code instr m)
@@ -203,10 +203,10 @@ LogGrows-more n k a b le g = let few = g.few in record { entries = g.entries; gr
 
 pub Leaves-then : (n k : ℕ) (a b c : Machine) → Leaves n a b → Leaves k b c → Leaves (n + k) a c
 Leaves-then n k a b c g h = record {
-    output = OutputGrows-then n k a.output b.output c.output g.output h.output;
-    log = LogGrows-more (2 * n + 2 * k) (2 * (n + k)) a.log c.log (omega arith) (LogGrows-then (2 * n) (2 * k) a.log b.log c.log g.log h.log);
-    memory = h.memory ∙ g.memory;
-  }
+  output = OutputGrows-then n k a.output b.output c.output g.output h.output;
+  log = LogGrows-more (2 * n + 2 * k) (2 * (n + k)) a.log c.log (omega arith) (LogGrows-then (2 * n) (2 * k) a.log b.log c.log g.log h.log);
+  memory = h.memory ∙ g.memory;
+}
 
 -- ---- the second writer
 
@@ -245,10 +245,10 @@ step_leaves code m = Stepped_leaves m (step code m) (step_stepped code m)
 -- a step after the second writer
 written_leaves : (m w n : Machine) → Wrote m w → Leaves 1 w n → Leaves 1 m n
 written_leaves m w n wrote l = record {
-    output = subst (λ x. OutputGrows 1 x n.output) (ap (λ (x : Machine). x.output) wrote.rest) l.output;
-    log = subst (λ x. LogGrows 2 x n.log) (ap (λ (x : Machine). x.log) wrote.rest) l.log;
-    memory = l.memory ∙ wrote.memory;
-  }
+  output = subst (λ x. OutputGrows 1 x n.output) (ap (λ (x : Machine). x.output) wrote.rest) l.output;
+  log = subst (λ x. LogGrows 2 x n.log) (ap (λ (x : Machine). x.log) wrote.rest) l.log;
+  memory = l.memory ∙ wrote.memory;
+}
 
 module _ (code : Code) (script : Script) where
   -- where a machine has no end, it advances by what comes before the instruction and by the instruction
@@ -411,16 +411,13 @@ allowed-outlines right (a ∷ one) (b ∷ two) at n e =
 
 -- ---- items
 
-fits_item-outlines : (item : Item) (one two : List Region) → map outline one ≡ map outline two → fits_item item one ≡ fits_item item two
-fits_item-outlines item one two e = ap (λ b. b && leb (size_of_deed item.deed) 4096) (at item.deed)
-  where
-    at : (d : Deed) → deed_fits d one ≡ deed_fits d two
-    at (deed.Write place bytes) = allowed-outlines Write one two place (length bytes) e
-    at (deed.Copy to from count) = rw (allowed-outlines Read one two from count e, allowed-outlines Write one two to count e)
+deed_fits-outlines : (d : Deed) (one two : List Region) → map outline one ≡ map outline two → deed_fits d one ≡ deed_fits d two
+deed_fits-outlines (deed.Write at bytes) one two e = allowed-outlines Write one two at (length bytes) e
+deed_fits-outlines (deed.Copy to from count) one two e = rw (allowed-outlines Read one two from count e, allowed-outlines Write one two to count e)
 
 pub all_fit-outlines : (items : List Item) (one two : List Region) → map outline one ≡ map outline two → all_fit items one ≡ all_fit items two
 all_fit-outlines [] one two e = refl
-all_fit-outlines (item ∷ items) one two e = rw (fits_item-outlines item one two e, all_fit-outlines items one two e)
+all_fit-outlines (item ∷ items) one two e = rw (deed_fits-outlines item.deed one two e, all_fit-outlines items one two e)
 
 -- items of greater numbers are not applied
 pub applied_all-before : (items : List Item) (from number : ℕ) (m : Machine) → ordered_from from items ≡ true → number < from → applied_all items number m ≡ m
