@@ -6,11 +6,12 @@ use Rattle.pa_object.specs.declared.end.End.{End}
 use Rattle.pa_object.specs.declared.script.Item.{Item}
 use Rattle.pa_object.specs.Machine.{Machine}
 use Rattle.pa_object.specs.Run.{Script, step, applied_all, advance, advance_by, run}
-use Rattle.pa_object.specs.Script.{all_fit, ordered_from}
-use Rattle.pa_object.proofs.Growth.{IsFine, applied_all_wrote, step_leaves, advance-goes, advance-count, advance_by-ended, advance_by-add, advance_by-later, all_fit-outlines}
+use Rattle.pa_object.specs.Script.{all_fit, all_lines, ordered_from}
+use Rattle.pa_object.proofs.Growth.{IsFine, applied_all_wrote, step_leaves, advance-goes, advance-count, advance_by_leaves, advance_by-ended, advance_by-add, advance_by-later, all_fit-outlines}
 use Rattle.pa_machine.specs.declared.went.Went.TheVariants.{Goes, Ended}
 use Rattle.pa_machine.specs.Items.{IsRest}
 use Rattle.pa_machine.specs.Running.{Running, went}
+use Rattle.pa_machine.proofs.Walks.{rest-rest, rest-applied, rest-fits, rest-lines}
 
 module _ (code : Code) (script : Script) where
   -- a run stands still where the number is reached
@@ -34,6 +35,10 @@ module _ (code : Code) (script : Script) where
   pub run_later : (n k : ℕ) (m : Machine) (e : End) → n ≤ k → (run code script n m).ended ≡ Some e → run code script k m ≡ run code script n m
   run_later n k m e le q = advance_by-later code script (n - m.count) (k - m.count) m e (omega arith) q
 
+  -- what fits before a run fits after it
+  pub run-fits : (n : ℕ) (items : List Item) (m : Machine) → all_fit items m.memory ≡ true → all_fit items (run code script n m).memory ≡ true
+  run-fits n items m h = all_fit-outlines items (run code script n m).memory m.memory (advance_by_leaves code script (n - m.count) m).memory ∙ h
+
 pub went-Goes : (o : Option End) → Goes ≡ went o → o ≡ None
 went-Goes None q = refl
 went-Goes (Some e) q = cc
@@ -52,10 +57,11 @@ pub record Reached {P : Type 0} (code : P → Code) (script left : List Item) (f
   pub ordered : ordered_from n left ≡ true
   pub rest : IsRest n script left
   pub fits : all_fit left now.machine.memory ≡ true
+  pub lines : all_lines left ≡ true
 
-pub reached-none : {P : Type 0} (code : P → Code) (script left : List Item) (first : Running P) (n : ℕ) → n ≡ first.machine.count → first.machine.ended ≡ None → all_fit script first.machine.memory ≡ true → ordered_from n left ≡ true → IsRest n script left
+pub reached-none : {P : Type 0} (code : P → Code) (script left : List Item) (first : Running P) (n : ℕ) → n ≡ first.machine.count → first.machine.ended ≡ None → all_fit script first.machine.memory ≡ true → all_lines script ≡ true → ordered_from n left ≡ true → IsRest n script left
     → Reached code script left first first n
-reached-none code script left first n is goes fits ordered rest = record {
+reached-none code script left first n is goes fits lines ordered rest = record {
   here = sym (ap (λ k. run (code first.pac) script k first.machine) is ∙ run_same (code first.pac) script first.machine);
   goes = goes;
   counted = sym is;
@@ -63,7 +69,8 @@ reached-none code script left first n is goes fits ordered rest = record {
   begun = omega arith;
   ordered = ordered;
   rest = rest;
-  fits = rest.fits first.machine.memory fits;
+  fits = rest-fits n script left rest first.machine.memory fits;
+  lines = rest-lines n script left rest lines;
 }
 
 -- room is made, and the items of the instruction are done
@@ -75,7 +82,7 @@ module _ {P : Type 0} (code : P → Code) (script left : List Item) (first now r
       ap (λ (x : Running P). x.machine) done
       ∙ ap (λ (x : Running P). applied_all left n x.machine) made
       ∙ ap (λ k. applied_all left k now.machine) (sym reached.counted)
-      ∙ sym (reached.rest.applied now.machine.count now.machine same)
+      ∙ sym (rest-applied n script left reached.rest now.machine.count now.machine same)
 
   written-pac : written.pac ≡ first.pac
   written-pac = ap (λ (x : Running P). x.pac) done ∙ ap (λ (x : Running P). x.pac) made ∙ reached.pac
@@ -118,9 +125,7 @@ module _ {P : Type 0} (code : P → Code) (script left : List Item) (first now r
           pac = ap (λ (x : Running P). x.pac) stepped ∙ written-pac;
           begun = omega arith;
           ordered = ordered;
-          rest = record {
-            applied = λ k m h. let lower : n ≤ k = omega arith in reached.rest.applied k m lower ∙ rest.applied k m h;
-            fits = λ memory h. rest.fits memory (reached.rest.fits memory h);
-          };
-          fits = rest.fits new.machine.memory (all_fit-outlines left new.machine.memory now.machine.memory stepped-memory ∙ reached.fits);
+          rest = rest-rest n (n + 1) script left behind (omega arith) reached.rest rest;
+          fits = rest-fits (n + 1) left behind rest new.machine.memory (all_fit-outlines left new.machine.memory now.machine.memory stepped-memory ∙ reached.fits);
+          lines = rest-lines (n + 1) left behind rest reached.lines;
         }

@@ -1,12 +1,9 @@
 -- What is left of a script.
-use Rattle.std.specs.Prelude.{◌≡◌, ◌≤◌, ℕ, true, List}
-use Rattle.pa_mem.specs.Memory.{Region}
+use Rattle.std.specs.Prelude.{◌≡◌, ◌<◌, ℕ, List, ◌++◌, All}
 use Rattle.pa_object.specs.declared.script.Item.{Item}
-use Rattle.pa_object.specs.Machine.{Machine}
-use Rattle.pa_object.specs.Run.{applied_all}
-use Rattle.pa_object.specs.Script.{all_fit}
 
--- the rest has each item of this number or above it, and no item that isn't in the list
+-- what is left behind those that are below this number
 pub record IsRest (number : ℕ) (items rest : List Item) : Type 0 where
-  pub applied : (k : ℕ) (m : Machine) → number ≤ k → applied_all items k m ≡ applied_all rest k m
-  pub fits : (memory : List Region) → all_fit items memory ≡ true → all_fit rest memory ≡ true
+  pub before : List Item
+  pub split : items ≡ before ++ rest
+  pub below : All (λ (item : Item). item.step < number) before

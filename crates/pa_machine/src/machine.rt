@@ -3,7 +3,7 @@
 ghost use Rattle.std.specs.Prelude.{◌≡◌, ◌+◌, ◌-◌, ◌*◌, ◌^◌, ◌<◌, ◌≤◌, length, IfOk, OnOk, OnErr, None, [], ℕ, true};
 ghost use Rattle.pa_object.specs.Machine.{begun};
 ghost use Rattle.pa_object.specs.Run.{step, run, end_of, applied, applied_all};
-ghost use Rattle.pa_object.specs.Script.{fits_item, all_fit, ordered_from};
+ghost use Rattle.pa_object.specs.Script.{deed_fits, all_fit, copy_is_short, all_lines, ordered_from, is_script};
 ghost use Rattle.pa_machine.specs.Items.{IsRest};
 ghost use Rattle.pa_machine.specs.Running.{went};
 
@@ -18,7 +18,7 @@ use std::marker::Model;
 
 const STEPS_AT_A_TIME: u32 = 4096;
 
-// The items of this number and those behind them.
+// The items of this number or above it.
 fn items_from(items: &[Item], number: u32) -> &[Item]
     requires { ordered_from 0 items.now ≡ true }
     ensures ordered { ordered_from number result.now ≡ true }
@@ -64,6 +64,7 @@ impl<'a, P: Pac> Machine<'a, P> {
         p: &'a P,
     ) -> Result<Machine<'a, P>, Memory>
         ensures machine { IfOk result (λ made. made.machine ≡ begun loaded.space loaded.log.entries loaded.pc loaded.sp input.now) }
+        ensures spare { IfOk result (λ made. made.spare ≡ 0) }
         ensures pac { IfOk result (λ made. made.pac ≡ p.now) }
     {
         let input = Bytes::from_slice(alloc, input)?;
@@ -131,11 +132,12 @@ impl<'a, P: Pac> Machine<'a, P> {
     }
 
     /// Runs until `bound` instructions ran in all, unless the program or a trap ends the run before. Before each instruction
-    /// the items of its number are applied. Room is made for 4,096 steps at a time; after want of memory the machine stands
-    /// where a run for fewer instructions does.
+    /// the items of its number are applied. Those below the count that the machine begins with are never applied, and
+    /// neither are those of the bound or above it. Room is made for 4,096 steps at a time; after want of memory the machine
+    /// stands where a run for fewer instructions does.
     pub fn run(&mut self, script: &[Item], bound: u32) -> Result<End, Memory>
+        requires script { is_script script.now ≡ true }
         requires fits { all_fit script.now self.old.machine.memory ≡ true }
-        requires ordered { ordered_from 0 script.now ≡ true }
         ensures machine { OnOk result (self.new.machine ≡ run (P.code self.old.pac) script.now bound self.old.machine) }
         ensures end { IfOk result (λ end. end ≡ end_of self.new.machine) }
         ensures err { OnErr result ((n : ℕ) × (n < bound) × (self.new.machine ≡ run (P.code self.old.pac) script.now n self.old.machine)) }
@@ -156,9 +158,11 @@ impl<'a, P: Pac> Machine<'a, P> {
         Ok(End::Bound)
     }
 
-    /// What the second writer does to memory before an instruction. A copy reads all its bytes first. It takes no memory.
+    /// What the second writer does to memory, whatever the item's number. A copy reads all its bytes first, and has at most
+    /// 4,096; a write may have any number. It takes no memory.
     pub fn apply(&mut self, item: &Item)
-        requires { fits_item item.now self.old.machine.memory ≡ true }
+        requires fits { deed_fits item.now.deed self.old.machine.memory ≡ true }
+        requires short { copy_is_short item.now.deed ≡ true }
         ensures { self.new ≡ record self.old { machine = applied item.now self.old.machine } }
     {
         self.processor.apply(item);
@@ -167,6 +171,7 @@ impl<'a, P: Pac> Machine<'a, P> {
     // The items of this number are done, and those behind them are left.
     fn apply_all<'s>(&mut self, items: &'s [Item], number: u32) -> &'s [Item]
         requires fits { all_fit items.now self.old.machine.memory ≡ true }
+        requires lines { all_lines items.now ≡ true }
         requires ordered { ordered_from number items.now ≡ true }
         ensures machine { self.new ≡ record self.old { machine = applied_all items.now number self.old.machine } }
         ensures ordered { ordered_from (number + 1) result.now ≡ true }

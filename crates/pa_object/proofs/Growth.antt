@@ -33,7 +33,7 @@ use Rattle.pa_object.specs.declared.script.Item.{Item}
 use Rattle.pa_object.specs.Machine.{Machine, next}
 use Rattle.pa_object.specs.Traps.{trap_of}
 use Rattle.pa_object.specs.Effects.{effect, called, prints, reads, exits}
-use Rattle.pa_object.specs.Script.{deed_fits, size_of_deed, fits_item, all_fit, ordered_from}
+use Rattle.pa_object.specs.Script.{deed_fits, all_fit, ordered_from}
 use Rattle.pa_object.specs.Run.{Script, ends, step, on_word, on_instr, unless_trap, unless_ended, done_to, applied, applied_all, advance, advance_by}
 use Rattle.pa_a64.specs.Decoding.{decoded}
 use Rattle.pa_mem.specs.Memory.{fetch}
@@ -411,16 +411,13 @@ allowed-outlines right (a ∷ one) (b ∷ two) at n e =
 
 -- ---- items
 
-fits_item-outlines : (item : Item) (one two : List Region) → map outline one ≡ map outline two → fits_item item one ≡ fits_item item two
-fits_item-outlines item one two e = ap (λ b. b && leb (size_of_deed item.deed) 4096) (at item.deed)
-  where
-    at : (d : Deed) → deed_fits d one ≡ deed_fits d two
-    at (deed.Write place bytes) = allowed-outlines Write one two place (length bytes) e
-    at (deed.Copy to from count) = rw (allowed-outlines Read one two from count e, allowed-outlines Write one two to count e)
+deed_fits-outlines : (d : Deed) (one two : List Region) → map outline one ≡ map outline two → deed_fits d one ≡ deed_fits d two
+deed_fits-outlines (deed.Write at bytes) one two e = allowed-outlines Write one two at (length bytes) e
+deed_fits-outlines (deed.Copy to from count) one two e = rw (allowed-outlines Read one two from count e, allowed-outlines Write one two to count e)
 
 pub all_fit-outlines : (items : List Item) (one two : List Region) → map outline one ≡ map outline two → all_fit items one ≡ all_fit items two
 all_fit-outlines [] one two e = refl
-all_fit-outlines (item ∷ items) one two e = rw (fits_item-outlines item one two e, all_fit-outlines items one two e)
+all_fit-outlines (item ∷ items) one two e = rw (deed_fits-outlines item.deed one two e, all_fit-outlines items one two e)
 
 -- items of greater numbers are not applied
 pub applied_all-before : (items : List Item) (from number : ℕ) (m : Machine) → ordered_from from items ≡ true → number < from → applied_all items number m ≡ m

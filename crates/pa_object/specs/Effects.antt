@@ -7,7 +7,7 @@ use Rattle.pa_pac.specs.declared.key.Key.{Key}
 use Rattle.pa_pac.specs.declared.key.Key.TheVariants.{IA, IB, DA, DB, GA}
 use Rattle.pa_pac.specs.declared.event.Way.{Way}
 use Rattle.pa_pac.specs.declared.event.Way.TheVariants as way
-use Rattle.pa_pac.specs.Signing.{Code, canonical, sign}
+use Rattle.pa_pac.specs.Signing.{Code, canonical, sign, generic_code}
 use Rattle.pa_a64.specs.declared.instr.Instr.{Instr}
 use Rattle.pa_a64.specs.declared.instr.Instr.TheVariants as i
 use Rattle.pa_a64.specs.declared.instr.MoveWideOp.{MoveWideOp}
@@ -205,10 +205,6 @@ abbrev pub plainly : Code → PlainOp → ℕ → Machine → Machine
 plainly code Paciza rd m = signed_in code IA 0 rd m
 plainly code Autiza rd m = accepted_in code (asked_by_autiza rd m) rd m
 plainly code Xpaci rd m = with_register rd (canonical (register rd m)) m
-
--- the upper half of the generic key's code
-abbrev pub generic_code : Code → ℕ → ℕ → ℕ
-generic_code code value modifier = code GA value modifier / 2 ^ 32 * 2 ^ 32
 
 -- ---- system calls: 1 prints the low byte of x0 and leaves it there, 2 reads a byte or gives -1, 3 ends the program
 

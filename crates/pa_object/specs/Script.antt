@@ -10,21 +10,34 @@ abbrev pub deed_fits : Deed → List Region → Bool
 deed_fits (deed.Write at bytes) memory = allowed Write memory at (length bytes)
 deed_fits (deed.Copy to from count) memory = allowed Read memory from count && allowed Write memory to count
 
+-- the deed of each item fits
+abbrev pub all_fit : List Item → List Region → Bool
+all_fit [] memory = true
+all_fit (item ∷ items) memory = deed_fits item.deed memory && all_fit items memory
+
 -- how many bytes are written
 abbrev pub size_of_deed : Deed → ℕ
 size_of_deed (deed.Write at bytes) = length bytes
 size_of_deed (deed.Copy to from count) = count
 
--- an item that fits a memory, of at most 4,096 bytes
-abbrev pub fits_item : Item → List Region → Bool
-fits_item item memory = deed_fits item.deed memory && nat_le (size_of_deed item.deed) 4096
+-- a copy of no more bytes than `Space::copy` of pa_mem moves; a write may be of any size
+abbrev pub copy_is_short : Deed → Bool
+copy_is_short (deed.Write at bytes) = true
+copy_is_short (deed.Copy to from count) = nat_le count 4096
 
--- each item of a list does
-abbrev pub all_fit : List Item → List Region → Bool
-all_fit [] memory = true
-all_fit (item ∷ items) memory = fits_item item memory && all_fit items memory
+-- a line writes or copies 1 to 4,096 bytes
+abbrev pub is_line : Item → Bool
+is_line item = nat_le 1 (size_of_deed item.deed) && nat_le (size_of_deed item.deed) 4096
+
+abbrev pub all_lines : List Item → Bool
+all_lines [] = true
+all_lines (item ∷ items) = is_line item && all_lines items
 
 -- the numbers of the items begin at this one or above it, and never fall
 abbrev pub ordered_from : ℕ → List Item → Bool
 ordered_from number [] = true
 ordered_from number (item ∷ items) = nat_le number item.step && ordered_from item.step items
+
+-- what a script is, whatever memory it is for: at most 65,536 lines, whose numbers never fall
+abbrev pub is_script : List Item → Bool
+is_script items = nat_le (length items) 65536 && (all_lines items && ordered_from 0 items)

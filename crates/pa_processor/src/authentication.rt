@@ -6,7 +6,7 @@ ghost use Rattle.pa_a64.specs.declared.instr.Instr.TheVariants as instr;
 ghost use Rattle.pa_object.specs.declared.end.Trap.TheVariants.{AuthFail};
 ghost use Rattle.pa_object.specs.Machine as spec;
 ghost use Rattle.pa_object.specs.Traps.{Asked, key_of_branch, key_of_authenticate, answer, fail_unless};
-ghost use Rattle.pa_object.specs.Effects.{key_of_sign, signed_in, accepted_in, generic_code};
+ghost use Rattle.pa_object.specs.Effects.{key_of_sign, signed_in, accepted_in};
 ghost use Rattle.pa_processor.specs.Processor.{Carried, Does, DoesOrTraps};
 
 use crate::processor::Processor;
@@ -47,7 +47,7 @@ fn key_of_sign(op: SignOp) -> Key
 
 // The upper half of the generic key's code.
 fn generic_code<P: Pac>(p: &P, value: u64, modifier: u64) -> u64
-    ensures { result ≡ generic_code (P.code p.now) value modifier }
+    ensures { result ≡ signing.generic_code (P.code p.now) value modifier }
 {
     p.pac(Key::GA, value, modifier) >> 32 << 32
 }

@@ -9,7 +9,7 @@ ghost use Rattle.pa_object.specs.Machine.{begun};
 ghost use Rattle.pa_object.specs.declared.end.End.TheVariants as end;
 ghost use Rattle.pa_object.specs.Effects.{links, exits, first_or_end, behind_first};
 ghost use Rattle.pa_object.specs.Run.{applied, ends};
-ghost use Rattle.pa_object.specs.Script.{fits_item};
+ghost use Rattle.pa_object.specs.Script.{deed_fits, copy_is_short};
 
 use crate::input::Input;
 use crate::loaded::Loaded;
@@ -341,9 +341,10 @@ impl Processor {
         self.ended = Some(End::Trap(trap));
     }
 
-    /// What the second writer does to memory. A copy reads all its bytes first.
+    /// What the second writer does to memory. A copy reads all its bytes first, and has at most 4,096.
     pub fn apply(&mut self, item: &Item)
-        requires { fits_item item.now self.old.machine.memory ≡ true }
+        requires fits { deed_fits item.now.deed self.old.machine.memory ≡ true }
+        requires short { copy_is_short item.now.deed ≡ true }
         ensures { self.new ≡ record self.old { machine = applied item.now self.old.machine } }
     {
         match &item.deed {

@@ -1,15 +1,19 @@
 use Rattle.std.proofs.Common.{◌+◌, ◌≤◌, sym, ap, ◌∙◌, arith}
 use Rattle.pa_object.specs.Machine.{Machine}
 use Rattle.pa_machine.proofs.Runs.{run_reached, run_ended, run_later, went-Goes, went-Ended, reached-none, written-goes, written-count, stepped-here, stepped-reached}
+use Rattle.pa_machine.proofs.Walks.{script-lines, script-ordered}
 use Rattle.pa_machine.proofs.machine.Machine.run.Goals as goal
 
 pub returns-in-Some-clause-machine : goal.returns-in-Some-clause-machine
 returns-in-Some-clause-machine g c =
     sym (run_ended (g.P.Pac.code c.args.self.now.pac) c.args.script.now c.args.bound c.args.self.now.machine c.in-Some.end (sym c.ended.ensures ∙ c.in-Some.is))
 
+pub items_from-items-requires : goal.items_from-items-requires
+items_from-items-requires g c = script-ordered c.args.script.now c.requires.script
+
 pub loop-count-init : goal.loop-count-init
 loop-count-init g c = record {
-  reached = reached-none g.P.Pac.code c.args.script.now c.items_from-items.result.now c.args.self.now c.count-start.result c.count-start.ensures (sym c.ended.ensures ∙ c.in_default.is) c.requires.fits c.items_from-items.ensures.ordered c.items_from-items.ensures.rest;
+  reached = reached-none g.P.Pac.code c.args.script.now c.items_from-items.result.now c.args.self.now c.count-start.result c.count-start.ensures (sym c.ended.ensures ∙ c.in_default.is) c.requires.fits (script-lines c.args.script.now c.requires.script) c.items_from-items.ensures.ordered c.items_from-items.ensures.rest;
   most = omega arith;
 }
 
