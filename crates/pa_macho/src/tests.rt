@@ -55,6 +55,8 @@ fn spells_both_roles(rt: HostRuntime) -> Result<(), Fail> {
     let library = file(rt.alloc(), &LIBRARY)?;
     assert_eq!(rt; library.len(), 32_907);
     assert_eq!(rt; read_header(&library), Ok(LIBRARY));
+    assert!(rt; 824 <= program.len());
+    assert!(rt; 728 <= library.len());
     let start = [
         0xcf, 0xfa, 0xed, 0xfe, 0x0c, 0, 0, 1, 2, 0, 0, 0, 2, 0, 0, 0, 8, 0, 0, 0, 0x18, 3, 0, 0,
         0x85, 0, 0x20, 0,
