@@ -1,5 +1,6 @@
 pub mod Cut
 pub mod Header
+pub mod Laws
 pub mod Made
 pub mod Small
 pub mod Whole

@@ -61,7 +61,7 @@ fn spells_both_roles(rt: HostRuntime) -> Result<(), Fail> {
         0xcf, 0xfa, 0xed, 0xfe, 0x0c, 0, 0, 1, 2, 0, 0, 0, 2, 0, 0, 0, 8, 0, 0, 0, 0x18, 3, 0, 0,
         0x85, 0, 0x20, 0,
     ];
-    assert_eq!(rt; &program[..28], start.as_slice());
+    assert!(rt; program.starts_with(&start));
     assert_eq!(rt; &program[808..824], b"libpal.dylib\0\0\0\0".as_slice());
     assert_eq!(rt; &library[712..728], b"libpal.dylib\0\0\0\0".as_slice());
     assert_eq!(rt; FRONT, 0x400);
