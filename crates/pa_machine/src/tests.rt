@@ -1,6 +1,6 @@
 ghost use Rattle.std.specs.Prelude.{◌≡◌, IfOk, length, List, true};
 ghost use Rattle.pa_mem.specs.Memory.{Region, Read, Write, allowed};
-ghost use Rattle.pa_object.specs.Script.{fits_item};
+ghost use Rattle.pa_object.specs.Script.{deed_fits, is_line};
 
 use crate::{End, Loaded, Machine, Trap};
 use pa_log::Log;
@@ -166,7 +166,8 @@ fn stays_where_memory_is_wanting(rt: HostRuntime) {
 
 // This byte sixteen times over the second region.
 fn fill(alloc: Global, step: u32, byte: u8) -> Result<Item, Memory>
-    ensures fits { IfOk result (λ item. (memory : List Region) → allowed Write memory 0x2010 16 ≡ true → fits_item item memory ≡ true) }
+    ensures fits { IfOk result (λ item. (memory : List Region) → allowed Write memory 0x2010 16 ≡ true → deed_fits item.deed memory ≡ true) }
+    ensures line { IfOk result (λ item. is_line item ≡ true) }
     ensures step { IfOk result (λ item. item.step ≡ step) }
 {
     let bytes = Bytes::from_slice(alloc, &[byte; 16])?;
@@ -178,7 +179,8 @@ fn fill(alloc: Global, step: u32, byte: u8) -> Result<Item, Memory>
 
 // The first region copied over the second.
 fn copy(step: u32) -> Item
-    ensures fits { (memory : List Region) → allowed Read memory 0x2000 16 ≡ true → allowed Write memory 0x2010 16 ≡ true → fits_item result memory ≡ true }
+    ensures fits { (memory : List Region) → allowed Read memory 0x2000 16 ≡ true → allowed Write memory 0x2010 16 ≡ true → deed_fits result.deed memory ≡ true }
+    ensures line { is_line result ≡ true }
     ensures step { result.step ≡ step }
 {
     Item {
