@@ -1,32 +1,39 @@
--- The laws of images and their bytes: what bytes stand for is legal, and bytes stand for one image.
+-- The laws of images and their bytes: an image that bytes stand for is legal, bytes stand for one image, and one image has one
+-- spelling.
 use Rattle.std.proofs.Common.{◌≡◌, ℕ, ◌+◌, ◌-◌, ◌*◌, ◌/◌, ◌≤◌, ◌<◌, ◌^◌, List, length, refl, subst, sym, ap, ◌∙◌, arith}
-use Rattle.pa_layout.specs.Fields.{AllFit, numbers}
+use Rattle.pa_layout.specs.Fields.{AllFit, IsAt, numbers}
 use Rattle.pa_layout.specs.Flaws.{AllMet}
+use Rattle.pa_layout.proofs.Laws.{IsBytes}
+use Rattle.pa_layout.proofs.Pieces.{AllAt, Chained, joined, pieces-whole}
 use Rattle.pa_macho.specs.declared.header.Header.{Header}
 use Rattle.pa_macho.specs.declared.places.Places.{Places}
-use Rattle.pa_macho.specs.Layout.{Ordered, places_of, text_segment, data_segment, linkedit_segment}
-use Rattle.pa_macho.specs.Reading.{segment_checks, IsHeader}
+use Rattle.pa_macho.specs.Layout.{Ordered, page_count, places_of, text_segment, data_segment, linkedit_segment}
+use Rattle.pa_macho.specs.Reading.{segment_checks, gap_checks, IsHeader}
 use Rattle.pa_macho.specs.Writing.{FieldsFit, HeaderFits}
 use Rattle.pa_macho.proofs.Facts.{spans}
+use Rattle.pa_macho.proofs.Front.{front_begins}
 use Rattle.pa_macho.proofs.Laws.{header_ends, taken_again}
 use Rattle.pa_fixups.specs.declared.tables.DataAt.{DataAt}
 use Rattle.pa_fixups.specs.declared.tables.Fixups.{Fixups}
-use Rattle.pa_fixups.specs.Fixups.{fixups_with, FixupsFit, ImportsFit}
+use Rattle.pa_fixups.specs.Fixups.{fixups_bytes, fixups_with, FixupsFit, ImportsFit}
 use Rattle.pa_fixups.proofs.Whole.{parts_only}
 use Rattle.pa_object.specs.declared.object.Mark.{Mark}
+use Rattle.pa_symbols.specs.Symbols.{symbols_of, strings_of}
 use Rattle.pa_symbols.proofs.Only.{tables_only}
 use Rattle.pa_slots.specs.declared.slots.Slots.{Slots}
 use Rattle.pa_slots.proofs.Whole.{slots_again}
-use Rattle.pa_slots.proofs.Held.{held_fit}
+use Rattle.pa_slots.proofs.Held.{held_fit, slots_spelled, length-starts_of}
 use Rattle.pa_slots.specs.Pages.{page_size, cells_from}
-use Rattle.pa_slots.specs.Slots.{slots_with}
+use Rattle.pa_slots.specs.Slots.{slots_with, plain_of}
+use Rattle.pa_slots.specs.Writing.{starts_of, pages_of}
 use Rattle.pa_image.specs.declared.image.Image.{Image}
 use Rattle.pa_image.specs.Bytes.{data_at, header_of, part, slots_at, text_at, Stands, IsImage}
 use Rattle.pa_image.specs.Known.{Known}
 use Rattle.pa_image.specs.Reading.{symbols_at}
-use Rattle.pa_image.specs.Writing.{IsLegal}
-use Rattle.pa_image.proofs.Cut.{starts_known}
+use Rattle.pa_image.specs.Writing.{IsLegal, gap}
+use Rattle.pa_image.proofs.Cut.{starts_known, part_stands, IsBytes-part}
 use Rattle.pa_image.proofs.Header.{known, parts_moved}
+use Rattle.pa_image.proofs.Made.{pieces, chained, sized}
 use Rattle.pa_image.proofs.Small.{fits_end}
 use Rattle.pa_image.proofs.Whole.{text_only, stubs_only, consts_only, image_only, slots_moved}
 
@@ -150,3 +157,57 @@ one_image x y bytes i j =
     let h = header_of x in
     let same : h ≡ header_of y = sym (taken_again h bytes i.header) ∙ taken_again (header_of y) bytes j.header in
     one_stands x y h (places_of h) bytes (known_of h bytes i.header) i.parts (parts_moved h (places_of h) bytes y refl same j)
+
+-- ---- one spelling
+
+gaps_stand : (h : Header) (p : Places) (bytes : List ℕ) → AllMet bytes (gap_checks h.role p)
+    → IsAt bytes p.text_end (gap p.text_end p.stubs) × IsAt bytes p.stubs_end (gap p.stubs_end p.consts) × IsAt bytes p.consts_end (gap p.consts_end p.got) × IsAt bytes p.fixups_end (gap p.fixups_end p.symbols) × IsAt bytes p.symbols_end (gap p.symbols_end p.strings)
+unfolding gap_checks
+gaps_stand h p bytes m = (m.1.0, m.1.1.0, m.1.1.1.0, m.1.1.1.1.1.1.1.0, m.1.1.1.1.1.1.1.1.0)
+
+abbrev starts_with : Image → Places → List ℕ
+starts_with image p = starts_of 0 (page_count p) image.fixes
+
+abbrev pages_with : Image → Header → Places → List ℕ
+pages_with image h p = pages_of 0 (page_count p) image.fixes (plain_of (slots_at h p (length image.imports)) (page_count p) image.cells)
+
+parts_stand : (image : Image) (bytes : List ℕ) (i : IsImage image bytes) → part (places_of (header_of image)).got (places_of (header_of image)).linkedit bytes ≡ pages_with image (header_of image) (places_of (header_of image)) → i.parts.starts ≡ starts_with image (places_of (header_of image))
+    → AllAt bytes (pieces image (header_of image) (places_of (header_of image)) (pages_with image (header_of image) (places_of (header_of image))) (starts_with image (places_of (header_of image))))
+parts_stand image bytes i pages_are starts_are =
+    let h = header_of image in
+    let p = places_of h in
+    let s = i.parts in
+    let k = known_of h bytes i.header in
+    let o = k.order in
+    let end : length bytes ≡ p.end = header_ends h bytes i.header in
+    let g = gaps_stand h p bytes i.header.gaps in
+    let fixups_are : part p.linkedit p.fixups_end bytes ≡ fixups_bytes (data_at h.role p) (fixups_with (starts_with image p) image.imports) =
+    s.fixups.bytes_are ∙ ap (λ (starts : List ℕ). fixups_bytes (data_at h.role p) (fixups_with starts image.imports)) starts_are in
+    let pages = subst (IsAt bytes p.got) pages_are (part_stands p.got p.linkedit bytes (omega arith) (omega arith)) in
+    let fixups = subst (IsAt bytes p.linkedit) fixups_are (part_stands p.linkedit p.fixups_end bytes (omega arith) (omega arith)) in
+    let symbols = subst (IsAt bytes p.symbols) s.marks.symbols_are (part_stands p.symbols p.symbols_end bytes (omega arith) (omega arith)) in
+    let strings = subst (IsAt bytes p.strings) s.marks.strings_are (part_stands p.strings p.end bytes (omega arith) (omega arith)) in
+    (front_begins h bytes i.header, (s.text.0, (g.0, (s.stubs.0, (g.1, (s.consts, (g.2, (pages, (fixups, (g.3, (symbols, (g.4, (strings, tt)))))))))))))
+
+image_spelled : (image : Image) (bytes : List ℕ) → IsBytes bytes → IsImage image bytes
+    → bytes ≡ joined (pieces image (header_of image) (places_of (header_of image)) (pages_with image (header_of image) (places_of (header_of image))) (starts_with image (places_of (header_of image))))
+image_spelled image bytes b i =
+    let h = header_of image in
+    let p = places_of h in
+    let at = slots_at h p (length image.imports) in
+    let starts : List ℕ = i.parts.starts in
+    let known = starts_known h p (fixups_with starts image.imports) bytes (known_of h bytes i.header) i.parts.fixups in
+    let size : length (part p.got p.linkedit bytes) ≡ page_size * length starts = known.size in
+    let count : length starts ≡ page_count p = i.parts.fixups.fit.pages in
+    let e = slots_spelled at starts (slots_with image.cells image.fixes) (part p.got p.linkedit bytes) (IsBytes-part p.got p.linkedit bytes b) i.parts.slots in
+    let pages_are : part p.got p.linkedit bytes ≡ pages_with image h p = e.0 ∙ ap (λ (n : ℕ). pages_of 0 n image.fixes (plain_of at n image.cells)) count in
+    let starts_are : starts ≡ starts_with image p = e.1 ∙ ap (λ (n : ℕ). starts_of 0 n image.fixes) count in
+    let lp : length (pages_with image h p) ≡ page_size * page_count p = sym (ap length pages_are) ∙ size ∙ ap (λ (n : ℕ). page_size * n) count in
+    let z = sized image (pages_with image h p) (starts_with image p) lp (length-starts_of 0 (page_count p) image.fixes) in
+    let c = chained image h (pages_with image h p) (starts_with image p) z in
+    pieces-whole bytes (pieces image h p (pages_with image h p) (starts_with image p)) (subst (λ (n : ℕ). Chained 0 (pieces image h p (pages_with image h p) (starts_with image p)) n) (sym (header_ends h bytes i.header)) c)
+    (parts_stand image bytes i pages_are starts_are)
+
+-- one image has one spelling
+pub one_spelling : (image : Image) (bytes other : List ℕ) → IsBytes bytes → IsBytes other → IsImage image bytes → IsImage image other → bytes ≡ other
+one_spelling image bytes other b c i j = image_spelled image bytes b i ∙ sym (image_spelled image other c j)

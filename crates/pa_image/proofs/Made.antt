@@ -34,7 +34,7 @@ use Rattle.pa_image.proofs.Header.{pages_whole, cells_place, sections_same, data
 use Rattle.pa_image.proofs.Words.{length-words}
 use Rattle.pa_image.proofs.Small.{fits_end}
 
-abbrev pieces : Image → Header → Places → (slots starts : List ℕ) → List Piece
+abbrev pub pieces : Image → Header → Places → (slots starts : List ℕ) → List Piece
 pieces image h p slots starts =
     piece 0 (front_of h) ∷ piece 0x400 (words_bytes image.text) ∷ piece p.text_end (gap p.text_end p.stubs) ∷ piece p.stubs (words_bytes image.stubs) ∷ piece p.stubs_end (gap p.stubs_end p.consts)
     ∷ piece p.consts image.consts ∷ piece p.consts_end (gap p.consts_end p.got) ∷ piece p.got slots ∷ piece p.linkedit (fixups_bytes (data_at h.role p) (fixups_with starts image.imports))
@@ -52,7 +52,7 @@ written_joined image h p slots starts =
     ap (λ (l : List ℕ). front_of h ++ l) (concat_put (words_bytes image.text) (gap p.text_end p.stubs) (words_bytes image.stubs) (gap p.stubs_end p.consts) image.consts (gap p.consts_end p.got) (slots ++ concat (linkedit_parts image h p starts)))
 
 -- the sizes of the parts are those of the header
-record Sized (image : Image) (h : Header) (p : Places) (slots starts : List ℕ) : Type 0 where
+pub record Sized (image : Image) (h : Header) (p : Places) (slots starts : List ℕ) : Type 0 where
   pub text : h.text ≡ 4 * length image.text
   pub stubs : h.stubs ≡ 4 * length image.stubs
   pub consts : h.consts ≡ length image.consts
@@ -64,7 +64,7 @@ record Sized (image : Image) (h : Header) (p : Places) (slots starts : List ℕ)
 length-gap : (low high : ℕ) → length (gap low high) ≡ high - low
 length-gap low high = length-replicate {A = ℕ} (high - low) 0
 
-chained : (image : Image) (h : Header) (slots starts : List ℕ) → Sized image h (places_of h) slots starts → Chained 0 (pieces image h (places_of h) slots starts) (places_of h).end
+pub chained : (image : Image) (h : Header) (slots starts : List ℕ) → Sized image h (places_of h) slots starts → Chained 0 (pieces image h (places_of h) slots starts) (places_of h).end
 chained image h slots starts z =
     let p = places_of h in
     let s = spans h in
@@ -93,7 +93,7 @@ header_others : (image : Image) → ((header_of image).text ≡ 4 * length image
 unfolding header_of
 header_others image = (refl, refl, refl, refl, refl)
 
-sized : (image : Image) (slots starts : List ℕ) → length slots ≡ page_size * page_count (places_of (header_of image)) → length starts ≡ page_count (places_of (header_of image)) → Sized image (header_of image) (places_of (header_of image)) slots starts
+pub sized : (image : Image) (slots starts : List ℕ) → length slots ≡ page_size * page_count (places_of (header_of image)) → length starts ≡ page_count (places_of (header_of image)) → Sized image (header_of image) (places_of (header_of image)) slots starts
 sized image slots starts ls lt =
     let h = header_of image in
     let p = places_of h in
