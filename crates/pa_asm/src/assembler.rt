@@ -11,7 +11,7 @@ use pa_object::Object;
 use std::alloc::Global;
 
 /// The object of a program in assembly, or the first line that breaks a rule, numbered from 1. A label may be used before
-/// it stands. It takes time in proportion to the bytes, but for labels picked so that their hashes collide.
+/// it stands. It takes time in proportion to the bytes: labels are hashed under a key that is made of the text.
 pub fn assemble(alloc: Global, text: &str) -> Result<Object, Fault<AsmRule>>
     requires { length text.now ≤ 4294967295 }
     ensures answer { answers.IsAnswer text.now result }

@@ -7,6 +7,7 @@ ghost use Rattle.pa_asm.specs.Written.{read};
 use crate::pieces::cut_line;
 use indexmap::IndexMap;
 use pa_asmline::{Line, read_line};
+use pa_names::TextKey;
 use pa_num::Memory;
 use std::alloc::Global;
 
@@ -20,15 +21,16 @@ pub struct Place {
 /// The labels of a text. Of several with one name the first counts.
 #[derive(Drop)]
 pub struct Labels<'a> {
-    places: IndexMap<&'a [u8], Place>,
+    places: IndexMap<&'a [u8], Place, TextKey>,
 }
 
 impl<'a> Labels<'a> {
-    fn new(alloc: Global) -> Labels<'a>
+    /// None yet. They are hashed under the key.
+    fn new(alloc: Global, key: TextKey) -> Labels<'a>
         ensures { (name : List ℕ) → kept result name ≡ None }
     {
         Labels {
-            places: IndexMap::new(alloc),
+            places: IndexMap::with_hasher(alloc, key),
         }
     }
 
@@ -68,7 +70,7 @@ impl<'a> Labels<'a> {
         requires { length text.now ≤ 4294967295 }
         ensures { IfOk result (λ labels. (name : List ℕ) → kept labels name ≡ spec.find (read text.now) name) }
     {
-        let mut labels = Labels::new(alloc);
+        let mut labels = Labels::new(alloc, TextKey::of(text));
         let mut number = 1;
         let mut at = 0;
         let mut rest = Some(text);

@@ -1,5 +1,5 @@
 -- What is known once a check of a header has passed.
-use Rattle.std.proofs.Common.{◌≡◌, ℕ, ◌+◌, ◌-◌, ◌≤◌, List, length, None, arith}
+use Rattle.std.proofs.Common.{◌≡◌, ℕ, ◌+◌, ◌-◌, ◌≤◌, List, [], ◌∷◌, length, None, refl, arith}
 use Rattle.std.proofs.lemmas.Bool.{leb-true}
 use Rattle.pa_num.specs.declared.fault.ImageRule.TheVariants.{H1, H2, H3}
 use Rattle.pa_layout.specs.Flaws.{Fields, flaw_of, first}
@@ -8,8 +8,9 @@ use Rattle.pa_macho.specs.declared.header.Role.{Role}
 use Rattle.pa_macho.specs.declared.header.Role.TheVariants.{Main, Library}
 use Rattle.pa_macho.specs.declared.header.Header.{Header}
 use Rattle.pa_macho.specs.declared.places.Places.{Places}
-use Rattle.pa_macho.specs.Layout.{counts_of, commands_end, shapes_of, segment_of, linkedit_segment, places_of, Ordered}
-use Rattle.pa_macho.specs.Reading.{HasRoom, length_check, start_checks, segment_checks}
+use Rattle.pa_macho.specs.declared.commands.CommandShape.{CommandShape}
+use Rattle.pa_macho.specs.Layout.{counts_of, command_count, commands_end, shapes_of, segment_of, linkedit_segment, places_of, Ordered}
+use Rattle.pa_macho.specs.Reading.{HasRoom, length_check, start_checks}
 
 pub length_long : (bytes : List ℕ) → flaw_of (length_check (length bytes)) bytes ≡ None → 32 ≤ length bytes
 unfolding length_check
@@ -23,6 +24,21 @@ pub shapes_room : (role : Role) (len : ℕ) → commands_end role ≤ len → Ha
 unfolding shapes_of
 shapes_room Main len le = (omega arith, (omega arith, (omega arith, (omega arith, (omega arith, (omega arith, (omega arith, (omega arith, tt))))))))
 shapes_room Library len le = (omega arith, (omega arith, (omega arith, (omega arith, (omega arith, (omega arith, tt))))))
+
+-- the counts and the ends that the header tells are those of the list of commands
+pub sizes : List CommandShape → ℕ
+sizes [] = 0
+sizes (shape ∷ shapes) = shape.size + sizes shapes
+
+pub commands_counted : (role : Role) → command_count role ≡ length (shapes_of role)
+unfolding shapes_of
+commands_counted Main = refl
+commands_counted Library = refl
+
+pub commands_measured : (role : Role) → commands_end role ≡ 32 + sizes (shapes_of role)
+unfolding shapes_of sizes
+commands_measured Main = refl
+commands_measured Library = refl
 
 pub linkedit_ends : (h : Header) (p : Places) (at len : ℕ) (bytes : List ℕ) → Ordered p → flaw_of (Fields H3 at (linkedit_segment h p len)) bytes ≡ None → p.end ≤ len
 unfolding linkedit_segment segment_of

@@ -1,12 +1,12 @@
 -- Fields have room for their numbers exactly where the test says so.
-use Rattle.std.proofs.Common.{◌≡◌, ℕ, ◌+◌, ◌≤◌, leb, true, List, arith, refl}
+use Rattle.std.proofs.Common.{◌≡◌, ℕ, ◌≤◌, leb, true, List, arith, refl}
 use Rattle.std.proofs.lemmas.Bool.{le-leb}
 use Rattle.pa_layout.specs.declared.field.FileField.{FileField}
 use Rattle.pa_layout.specs.Fields.{AllFit, all_have_room}
 use Rattle.pa_layout.proofs.Laws.{fit_from_room, room_from_fit}
 use Rattle.pa_macho.specs.declared.header.Role.{Role}
 use Rattle.pa_macho.specs.declared.header.Role.TheVariants.{Main, Library}
-use Rattle.pa_macho.specs.Layout.{start_of, counts_of, flags_of, page_zero_of, segment_of, entry_command, library_command, commands_end}
+use Rattle.pa_macho.specs.Layout.{start_of, counts_of, flags_of, page_zero_of, segment_of, entry_command, library_command}
 
 pub room_fits : (fields : List FileField) → all_have_room fields ≡ true → AllFit fields
 room_fits fields e = fit_from_room fields e

@@ -1,9 +1,9 @@
 -- The bytes before __text are the header's fields at their places.
-use Rattle.std.proofs.Common.{◌≡◌, ℕ, ◌+◌, ◌-◌, ◌*◌, ◌^◌, ◌≤◌, ◌<◌, leb, List, [], ◌∷◌, ◌++◌, length, replicate, refl, sym, ap, subst, ◌∙◌, append_assoc, arith}
+use Rattle.std.proofs.Common.{◌≡◌, ℕ, ◌+◌, ◌-◌, ◌^◌, ◌≤◌, ◌<◌, List, [], ◌∷◌, ◌++◌, length, replicate, refl, sym, ap, subst, ◌∙◌, append_assoc, arith}
 use Rattle.std.specs.List.{concat}
 use Rattle.std.proofs.lemmas.Bool.{le-leb}
 use Rattle.std.proofs.lemmas.List.{length-replicate, append-nil}
-use Rattle.pa_layout.specs.Fields.{four, spelled, size_of, AllFit, IsAt}
+use Rattle.pa_layout.specs.Fields.{four, spelled, AllFit, IsAt}
 use Rattle.pa_layout.specs.Flaws.{AllMet}
 use Rattle.pa_layout.proofs.Laws.{IsAt-append, IsAt-first, IsAt-second, length-spelled, spelled-append}
 use Rattle.pa_layout.proofs.Pieces.{Piece, piece, AllAt, Chained, joined, pieces-stand, pieces-apart, length-joined, Chained-append, AllAt-append, AllAt-first, AllAt-second, joined-append}
@@ -13,39 +13,43 @@ use Rattle.pa_macho.specs.declared.header.Header.{Header}
 use Rattle.pa_macho.specs.declared.places.Places.{Places}
 use Rattle.pa_macho.specs.declared.places.Sizes.{Sizes}
 use Rattle.pa_macho.specs.declared.commands.CommandShape.{CommandShape}
-use Rattle.pa_macho.specs.Layout.{places_of, header_of, text_at, commands_end, shapes_of, start_of, counts_of, flags_of, page_zero_of, segment_of, section_of, text_segment, data_segment, linkedit_segment, text_section, stubs_section, consts_section, got_section, cells_section, fixups_command, symbols_command, entry_command, library_command}
+use Rattle.pa_macho.specs.Layout.{places_of, header_of, text_at, commands_end, bare_shape, text_shape, data_shape, fixups_shape, symbols_shape, entry_shape, library_shape, shapes_of, start_of, counts_of, flags_of, page_zero_of, segment_of, section_of, text_segment, data_segment, linkedit_segment, text_section, stubs_section, consts_section, got_section, cells_section, fixups_command, symbols_command, entry_command, library_command}
 use Rattle.pa_macho.specs.Reading.{start_checks, size_checks, number_checks, page_zero_checks, segment_checks, last_checks, gap_checks, IsHeader}
-use Rattle.pa_macho.specs.Writing.{FieldsFit, HeaderFits, IsFront, command, page_zero_parts, entry_parts, library_number, library_parts, start_parts, segment_parts, front_with, front_of}
-use Rattle.pa_macho.proofs.Facts.{Spans, spans}
+use Rattle.pa_macho.specs.Writing.{FieldsFit, HeaderFits, IsFront, command, page_zero_parts, entry_parts, library_parts, start_parts, segment_parts, front_with, front_of}
+use Rattle.pa_macho.proofs.Facts.{spans}
 use Rattle.pa_macho.proofs.Fits.{page_zero_fits, start_fits, flags_fit, counts_fit, entry_fits, library_fits}
-use Rattle.pa_macho.proofs.Laws.{header_ends, text_at-le, commands_end-le}
+use Rattle.pa_macho.proofs.Laws.{header_ends, commands_end-le}
 
 -- ---- the commands' numbers and sizes
 
 abbrev command_pieces : ℕ → List CommandShape → List Piece
 command_pieces at [] = []
-command_pieces at (shape ∷ shapes) = piece at (command shape.number shape.size) ∷ command_pieces (at + shape.size) shapes
+command_pieces at (shape ∷ shapes) = piece at (command shape) ∷ command_pieces (at + shape.size) shapes
 
-command_joins : (bytes : List ℕ) (at number size : ℕ) → IsAt bytes at (spelled (four number ∷ [])) → IsAt bytes (at + 4) (spelled (four size ∷ [])) → IsAt bytes at (command number size)
+command_joins : (bytes : List ℕ) (at : ℕ) (shape : CommandShape) → IsAt bytes at (spelled (four shape.number ∷ [])) → IsAt bytes (at + 4) (spelled (four shape.size ∷ [])) → IsAt bytes at (command shape)
 unfolding command
-command_joins bytes at number size n s =
+command_joins bytes at shape n s =
+    let number : ℕ = shape.number in
+    let size : ℕ = shape.size in
     let len = length-spelled (four number ∷ []) in
     subst (IsAt bytes at) (sym (spelled-append (four number ∷ []) (four size ∷ []))) (IsAt-append bytes at (spelled (four number ∷ [])) (spelled (four size ∷ [])) (at + 4) (omega arith) n s)
 
-command_parts : (bytes : List ℕ) (at number size : ℕ) → IsAt bytes at (command number size) → (IsAt bytes at (spelled (four number ∷ []))) × (IsAt bytes (at + 4) (spelled (four size ∷ [])))
+command_parts : (bytes : List ℕ) (at : ℕ) (shape : CommandShape) → IsAt bytes at (command shape) → (IsAt bytes at (spelled (four shape.number ∷ []))) × (IsAt bytes (at + 4) (spelled (four shape.size ∷ [])))
 unfolding command
-command_parts bytes at number size h =
+command_parts bytes at shape h =
+    let number : ℕ = shape.number in
+    let size : ℕ = shape.size in
     let len = length-spelled (four number ∷ []) in
     let both : IsAt bytes at (spelled (four number ∷ []) ++ spelled (four size ∷ [])) = subst (IsAt bytes at) (spelled-append (four number ∷ []) (four size ∷ [])) h in
     (IsAt-first bytes at (spelled (four number ∷ [])) (spelled (four size ∷ [])) both, subst (λ (n : ℕ). IsAt bytes n (spelled (four size ∷ []))) (omega arith) (IsAt-second bytes at (spelled (four number ∷ [])) (spelled (four size ∷ [])) both))
 
-length-command : (number size : ℕ) → length (command number size) ≡ 8
+length-command : (shape : CommandShape) → length (command shape) ≡ 8
 unfolding command
-length-command number size = length-spelled (four number ∷ four size ∷ [])
+length-command shape = length-spelled (four shape.number ∷ four shape.size ∷ [])
 
 commands_join : (bytes : List ℕ) (at : ℕ) (shapes : List CommandShape) → AllMet bytes (size_checks at shapes) → AllMet bytes (number_checks at shapes) → AllAt bytes (command_pieces at shapes)
 commands_join bytes at [] s n = tt
-commands_join bytes at (shape ∷ shapes) s n = (command_joins bytes at shape.number shape.size n.0.0 s.0.0, commands_join bytes (at + shape.size) shapes s.1 n.1)
+commands_join bytes at (shape ∷ shapes) s n = (command_joins bytes at shape n.0.0 s.0.0, commands_join bytes (at + shape.size) shapes s.1 n.1)
 
 abbrev ShapesFit : List CommandShape → Type 0
 ShapesFit [] = Unit {0}
@@ -53,23 +57,34 @@ ShapesFit (shape ∷ shapes) = (AllFit (four shape.number ∷ [])) × (AllFit (f
 
 sizes_part : (bytes : List ℕ) (at : ℕ) (shapes : List CommandShape) → ShapesFit shapes → AllAt bytes (command_pieces at shapes) → AllMet bytes (size_checks at shapes)
 sizes_part bytes at [] f a = tt
-sizes_part bytes at (shape ∷ shapes) f a = (((command_parts bytes at shape.number shape.size a.0).1, f.1), sizes_part bytes (at + shape.size) shapes f.2 a.1)
+sizes_part bytes at (shape ∷ shapes) f a = (((command_parts bytes at shape a.0).1, f.1), sizes_part bytes (at + shape.size) shapes f.2 a.1)
 
 numbers_part : (bytes : List ℕ) (at : ℕ) (shapes : List CommandShape) → ShapesFit shapes → AllAt bytes (command_pieces at shapes) → AllMet bytes (number_checks at shapes)
 numbers_part bytes at [] f a = tt
-numbers_part bytes at (shape ∷ shapes) f a = (((command_parts bytes at shape.number shape.size a.0).0, f.0), numbers_part bytes (at + shape.size) shapes f.2 a.1)
+numbers_part bytes at (shape ∷ shapes) f a = (((command_parts bytes at shape a.0).0, f.0), numbers_part bytes (at + shape.size) shapes f.2 a.1)
 
-abbrev fits_four : (n : ℕ) → n < 2 ^ 32 → AllFit (four n ∷ [])
-fits_four n h = (h, refl, tt)
+abbrev fits : (shape : CommandShape) → shape.number < 2 ^ 32 → shape.size < 2 ^ 32 → (AllFit (four shape.number ∷ [])) × (AllFit (four shape.size ∷ []))
+fits shape n s = ((n, refl, tt), (s, refl, tt))
 
 shapes_fit : (role : Role) → ShapesFit (shapes_of role)
 unfolding shapes_of
 shapes_fit Main =
-    let s : AllFit (four 0x19 ∷ []) = fits_four 0x19 (omega arith) in
-    (s, fits_four 72 (omega arith), (s, fits_four 312 (omega arith), (s, fits_four 232 (omega arith), (s, fits_four 72 (omega arith), (fits_four 0x80000034 (omega arith), fits_four 16 (omega arith), (fits_four 2 (omega arith), fits_four 24 (omega arith), (fits_four 0x80000028 (omega arith), fits_four 24 (omega arith), (fits_four 0xc (omega arith), fits_four 40 (omega arith), tt))))))))
+    let bare = fits bare_shape (omega arith) (omega arith) in
+    let text = fits text_shape (omega arith) (omega arith) in
+    let slots = fits data_shape (omega arith) (omega arith) in
+    let fixups = fits fixups_shape (omega arith) (omega arith) in
+    let symbols = fits symbols_shape (omega arith) (omega arith) in
+    let entry = fits entry_shape (omega arith) (omega arith) in
+    let library = fits (library_shape Main) (omega arith) (omega arith) in
+    (bare.0, bare.1, (text.0, text.1, (slots.0, slots.1, (bare.0, bare.1, (fixups.0, fixups.1, (symbols.0, symbols.1, (entry.0, entry.1, (library.0, library.1, tt))))))))
 shapes_fit Library =
-    let s : AllFit (four 0x19 ∷ []) = fits_four 0x19 (omega arith) in
-    (s, fits_four 312 (omega arith), (s, fits_four 232 (omega arith), (s, fits_four 72 (omega arith), (fits_four 0x80000034 (omega arith), fits_four 16 (omega arith), (fits_four 2 (omega arith), fits_four 24 (omega arith), (fits_four 0xd (omega arith), fits_four 40 (omega arith), tt))))))
+    let bare = fits bare_shape (omega arith) (omega arith) in
+    let text = fits text_shape (omega arith) (omega arith) in
+    let slots = fits data_shape (omega arith) (omega arith) in
+    let fixups = fits fixups_shape (omega arith) (omega arith) in
+    let symbols = fits symbols_shape (omega arith) (omega arith) in
+    let library = fits (library_shape Library) (omega arith) (omega arith) in
+    (text.0, text.1, (slots.0, slots.1, (bare.0, bare.1, (fixups.0, fixups.1, (symbols.0, symbols.1, (library.0, library.1, tt))))))
 
 -- ---- the parts at their places
 
@@ -77,27 +92,27 @@ abbrev start_pieces : Role → ℕ → List Piece
 start_pieces role len = piece 0 (spelled (start_of role)) ∷ piece 16 (spelled (counts_of role len)) ∷ piece 24 (spelled (flags_of role)) ∷ []
 
 abbrev page_zero_pieces : Role → ℕ → List Piece
-page_zero_pieces Main len = piece 32 (command 0x19 72) ∷ piece 40 (spelled (page_zero_of len)) ∷ []
+page_zero_pieces Main len = piece 32 (command bare_shape) ∷ piece 40 (spelled (page_zero_of len)) ∷ []
 page_zero_pieces Library len = []
 
 abbrev segment_pieces : Header → Places → ℕ → List Piece
 segment_pieces h p len =
     let at = text_at h.role in
-    piece at (command 0x19 312) ∷ piece (at + 8) (spelled (text_segment h p len)) ∷ piece (at + 72) (spelled (text_section h)) ∷ piece (at + 152) (spelled (stubs_section h p))
-    ∷ piece (at + 232) (spelled (consts_section h p)) ∷ piece (at + 312) (command 0x19 232) ∷ piece (at + 320) (spelled (data_segment h p len)) ∷ piece (at + 384) (spelled (got_section h p))
-    ∷ piece (at + 464) (spelled (cells_section h p)) ∷ piece (at + 544) (command 0x19 72) ∷ piece (at + 552) (spelled (linkedit_segment h p len)) ∷ piece (at + 616) (command 0x80000034 16)
-    ∷ piece (at + 624) (spelled (fixups_command h p)) ∷ piece (at + 632) (command 2 24) ∷ piece (at + 640) (spelled (symbols_command h p)) ∷ []
+    piece at (command text_shape) ∷ piece (at + 8) (spelled (text_segment h p len)) ∷ piece (at + 72) (spelled (text_section h)) ∷ piece (at + 152) (spelled (stubs_section h p))
+    ∷ piece (at + 232) (spelled (consts_section h p)) ∷ piece (at + 312) (command data_shape) ∷ piece (at + 320) (spelled (data_segment h p len)) ∷ piece (at + 384) (spelled (got_section h p))
+    ∷ piece (at + 464) (spelled (cells_section h p)) ∷ piece (at + 544) (command bare_shape) ∷ piece (at + 552) (spelled (linkedit_segment h p len)) ∷ piece (at + 616) (command fixups_shape)
+    ∷ piece (at + 624) (spelled (fixups_command h p)) ∷ piece (at + 632) (command symbols_shape) ∷ piece (at + 640) (spelled (symbols_command h p)) ∷ []
 
 abbrev library_at : Role → ℕ
 library_at Main = 784
 library_at Library = 688
 
 abbrev entry_pieces : Role → List Piece
-entry_pieces Main = piece 760 (command 0x80000028 24) ∷ piece 768 (spelled entry_command) ∷ []
+entry_pieces Main = piece 760 (command entry_shape) ∷ piece 768 (spelled entry_command) ∷ []
 entry_pieces Library = []
 
 abbrev library_pieces : Role → List Piece
-library_pieces role = piece (library_at role) (command (library_number role) 40) ∷ piece (library_at role + 8) (spelled library_command) ∷ piece (commands_end role) (replicate (0x400 - commands_end role) 0) ∷ []
+library_pieces role = piece (library_at role) (command (library_shape role)) ∷ piece (library_at role + 8) (spelled library_command) ∷ piece (commands_end role) (replicate (0x400 - commands_end role) 0) ∷ []
 
 abbrev pieces : Header → Places → ℕ → List Piece
 pieces h p len = start_pieces h.role len ++ (page_zero_pieces h.role len ++ (segment_pieces h p len ++ (entry_pieces h.role ++ library_pieces h.role)))
@@ -113,7 +128,7 @@ start_chained role len =
 page_zero_chained : (role : Role) (len : ℕ) → Chained 32 (page_zero_pieces role len) (text_at role)
 unfolding page_zero_of segment_of
 page_zero_chained Main len =
-    let a = length-command 0x19 72 in
+    let a = length-command bare_shape in
     let b = length-spelled (page_zero_of len) in
     (refl, (omega arith, omega arith))
 page_zero_chained Library len = refl
@@ -145,11 +160,11 @@ section_lengths h p = record {
 
 segments_chained : (h : Header) (p : Places) (len : ℕ) → Chained (text_at h.role) (segment_pieces h p len) (text_at h.role + 656)
 segments_chained h p len =
-    let a = length-command 0x19 312 in
-    let b = length-command 0x19 232 in
-    let c = length-command 0x19 72 in
-    let d = length-command 0x80000034 16 in
-    let e = length-command 2 24 in
+    let a = length-command text_shape in
+    let b = length-command data_shape in
+    let c = length-command bare_shape in
+    let d = length-command fixups_shape in
+    let e = length-command symbols_shape in
     let s = length-segment h p len in
     let t = section_lengths h p in
     let s0 = s.0 in
@@ -160,7 +175,7 @@ segments_chained h p len =
 entry_chained : (role : Role) → Chained (text_at role + 656) (entry_pieces role) (library_at role)
 unfolding entry_command
 entry_chained Main =
-    let a = length-command 0x80000028 24 in
+    let a = length-command entry_shape in
     let b = length-spelled entry_command in
     (refl, (omega arith, omega arith))
 entry_chained Library = refl
@@ -172,7 +187,7 @@ library_ends Library = refl
 library_chained : (role : Role) → Chained (library_at role) (library_pieces role) 0x400
 unfolding library_command
 library_chained role =
-    let a = length-command (library_number role) 40 in
+    let a = length-command (library_shape role) in
     let b = length-spelled library_command in
     let e = library_ends role in
     let le = commands_end-le role in
@@ -212,12 +227,12 @@ front_joined h p =
 -- ---- a header's fields are its front
 
 record FiveCommands (role : Role) (bytes : List ℕ) : Type 0 where
-  pub text : IsAt bytes (text_at role) (command 0x19 312)
-  pub slots : IsAt bytes (text_at role + 312) (command 0x19 232)
-  pub linkedit : IsAt bytes (text_at role + 544) (command 0x19 72)
-  pub fixups : IsAt bytes (text_at role + 616) (command 0x80000034 16)
-  pub symbols : IsAt bytes (text_at role + 632) (command 2 24)
-  pub library : IsAt bytes (library_at role) (command (library_number role) 40)
+  pub text : IsAt bytes (text_at role) (command text_shape)
+  pub slots : IsAt bytes (text_at role + 312) (command data_shape)
+  pub linkedit : IsAt bytes (text_at role + 544) (command bare_shape)
+  pub fixups : IsAt bytes (text_at role + 616) (command fixups_shape)
+  pub symbols : IsAt bytes (text_at role + 632) (command symbols_shape)
+  pub library : IsAt bytes (library_at role) (command (library_shape role))
 
 five_commands : (role : Role) (bytes : List ℕ) → AllAt bytes (command_pieces 32 (shapes_of role)) → FiveCommands role bytes
 unfolding shapes_of
@@ -303,7 +318,7 @@ unfolding segment_checks
 segments_met h p bytes f a =
     ((a.1.0, f.text_segment), ((a.1.1.0, f.text), ((a.1.1.1.0, f.stubs), ((a.1.1.1.1.0, f.consts), ((a.1.1.1.1.1.1.0, f.data_segment), ((a.1.1.1.1.1.1.1.0, f.got), ((a.1.1.1.1.1.1.1.1.0, f.cells), ((a.1.1.1.1.1.1.1.1.1.1.0, f.linkedit), (le-leb p.end p.end (omega arith), ((a.1.1.1.1.1.1.1.1.1.1.1.1.0, f.fixups), ((a.1.1.1.1.1.1.1.1.1.1.1.1.1.1.0, f.symbols), tt)))))))))))
 
-five_from : (h : Header) (p : Places) (bytes : List ℕ) → AllAt bytes (segment_pieces h p p.end) → IsAt bytes (library_at h.role) (command (library_number h.role) 40) → FiveCommands h.role bytes
+five_from : (h : Header) (p : Places) (bytes : List ℕ) → AllAt bytes (segment_pieces h p p.end) → IsAt bytes (library_at h.role) (command (library_shape h.role)) → FiveCommands h.role bytes
 five_from h p bytes a l = record { text = a.0; slots = a.1.1.1.1.1.0; linkedit = a.1.1.1.1.1.1.1.1.1.0; fixups = a.1.1.1.1.1.1.1.1.1.1.1.0; symbols = a.1.1.1.1.1.1.1.1.1.1.1.1.1.0; library = l }
 
 last_met : (role : Role) (bytes : List ℕ) → AllAt bytes (entry_pieces role) → IsAt bytes (library_at role + 8) (spelled library_command) → AllMet bytes (last_checks role)

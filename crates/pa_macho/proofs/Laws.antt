@@ -1,13 +1,13 @@
 -- A header that is read is the one that the bytes have, and the bytes have one header.
-use Rattle.std.proofs.Common.{◌≡◌, ℕ, ◌+◌, ◌-◌, ◌*◌, ◌/◌, ◌%◌, ◌≤◌, ◌<◌, true, leb, eqb, List, length, Option, Some, None, Result, Ok, Err, refl, sym, ap, subst, ◌∙◌, arith}
+use Rattle.std.proofs.Common.{◌≡◌, ℕ, ◌+◌, ◌-◌, ◌/◌, ◌%◌, ◌≤◌, List, length, Option, Some, None, Result, Ok, Err, refl, sym, ap, subst, ◌∙◌, arith}
 use Rattle.std.specs.Result.{IsErrAnd}
 use Rattle.std.proofs.lemmas.Bool.{leb-true, le-leb, eqb-true}
 use Rattle.pa_num.specs.declared.fault.ImageRule.{ImageRule}
 use Rattle.pa_num.specs.declared.fault.Fault.{Fault}
 use Rattle.pa_num.specs.declared.fault.Fault.TheVariants.{Refused}
 use Rattle.pa_layout.specs.declared.checks.Flaw.{Flaw}
-use Rattle.pa_layout.specs.Fields.{number, four, spelled, AllFit, IsAt}
-use Rattle.pa_layout.specs.Flaws.{Check, Fields, Zeros, first, flaw_of, AllMet, ◌then◌}
+use Rattle.pa_layout.specs.Fields.{number}
+use Rattle.pa_layout.specs.Flaws.{first, flaw_of, AllMet, ◌then◌}
 use Rattle.pa_layout.proofs.Laws.{IsBytes, values_at}
 use Rattle.pa_layout.proofs.Facts.{then_none, none_then}
 use Rattle.pa_layout.proofs.CheckLaws.{AllInside, all_met, none_first, none_of_meets}
@@ -16,8 +16,7 @@ use Rattle.pa_macho.specs.declared.header.Role.TheVariants.{Main, Library}
 use Rattle.pa_macho.specs.declared.header.Header.{Header}
 use Rattle.pa_macho.specs.declared.places.Places.{Places}
 use Rattle.pa_macho.specs.declared.places.Sizes.{Sizes}
-use Rattle.pa_macho.specs.Layout as fields
-use Rattle.pa_macho.specs.Layout.{places_of, header_of, AreSmall, base_of, file_type, commands_end, text_at, shapes_of, start_of, counts_of, segment_of, section_of, text_segment, linkedit_segment, text_section, stubs_section, consts_section, got_section, cells_section, fixups_command, symbols_command, padding_low, padding_high}
+use Rattle.pa_macho.specs.Layout.{places_of, header_of, AreSmall, file_type, commands_end, text_at, shapes_of, start_of, counts_of, segment_of, section_of, linkedit_segment, text_section, stubs_section, consts_section, got_section, cells_section, fixups_command, symbols_command}
 use Rattle.pa_macho.specs.Reading.{role_in, taken_for, taken, length_check, start_checks, size_checks, number_checks, page_zero_checks, segment_checks, last_checks, gap_checks, flaw_with, header_flaw, IsHeader, Refuses}
 use Rattle.pa_macho.proofs.Facts.{Spans, spans, length_long, start_long}
 

@@ -1,6 +1,6 @@
 -- Where the parts of an image stand, and the tables of its header (mach-o/loader.h: mach_header_64, segment_command_64,
 -- section_64, symtab_command, linkedit_data_command, entry_point_command, dylib_command).
-use Rattle.std.specs.Prelude.{◌≡◌, ℕ, ◌+◌, ◌-◌, ◌*◌, ◌/◌, ◌%◌, ◌≤◌, ◌<◌, ◌^◌, ◌==◌, nat_le, min, max, List, [], ◌∷◌, codes}
+use Rattle.std.specs.Prelude.{ℕ, ◌+◌, ◌-◌, ◌*◌, ◌/◌, ◌%◌, ◌≤◌, ◌<◌, ◌^◌, ◌==◌, nat_le, min, max, List, [], ◌∷◌, codes}
 use Rattle.pa_layout.specs.declared.field.FileField.{FileField}
 use Rattle.pa_layout.specs.Fields.{four, eight, sixteen, only_if, text_number}
 use Rattle.pa_macho.specs.declared.header.Role.{Role}
@@ -11,6 +11,9 @@ use Rattle.pa_macho.specs.declared.places.Places.{Places}
 use Rattle.pa_macho.specs.declared.commands.CommandShape.{CommandShape}
 use Rattle.pa_macho.specs.declared.commands.Segment.{Segment}
 use Rattle.pa_macho.specs.declared.commands.Section.{Section}
+use Rattle.pa_macho.specs.Loader.{mh_magic_64, cpu_type_arm64, cpu_subtype_arm64e, mh_execute, mh_dylib, mh_noundefs, mh_dyldlink, mh_twolevel, mh_pie}
+use Rattle.pa_macho.specs.Loader.{lc_symtab, lc_load_dylib, lc_id_dylib, lc_segment_64, lc_main, lc_dyld_chained_fixups}
+use Rattle.pa_macho.specs.Loader.{vm_prot_none, vm_prot_read, vm_prot_write, vm_prot_execute, s_attr_some_instructions, s_attr_pure_instructions}
 
 -- ---- places
 
@@ -74,7 +77,7 @@ pub record Ordered (p : Places) : Type 0 where
   pub end : p.strings ≤ p.end
   pub small : p.end < 2 ^ 99
 
--- what sizes say that a file tells
+-- the header of sizes that a file tells; they have no bound, so it may be a header that no file has
 abbrev pub header_of : Sizes → Header
 header_of s = record {
   role = s.role;
@@ -118,18 +121,19 @@ base_of Main = 0x100000000
 base_of Library = 0x180000000
 
 abbrev pub file_type : Role → ℕ
-file_type Main = 2
-file_type Library = 6
+file_type Main = mh_execute
+file_type Library = mh_dylib
 
+-- no name is left undefined, dyld links the image, and names are looked up by library; a program may stand anywhere
 abbrev pub flags : Role → ℕ
-flags Main = 0x00200085
-flags Library = 0x85
+flags Main = mh_noundefs + mh_dyldlink + mh_twolevel + mh_pie
+flags Library = mh_noundefs + mh_dyldlink + mh_twolevel
 
+-- how many load commands there are, and where they end; they begin at 32 (proofs/Facts.antt ties both to the list below)
 abbrev pub command_count : Role → ℕ
 command_count Main = 8
 command_count Library = 6
 
--- where the load commands end; they begin at 32
 abbrev pub commands_end : Role → ℕ
 commands_end Main = 824
 commands_end Library = 728
@@ -142,18 +146,49 @@ text_at Library = 32
 abbrev pub shape : ℕ → ℕ → CommandShape
 shape number size = record { number = number; size = size }
 
--- the load commands in order, each with its size
+-- a segment with so many sections: segment_command_64 and a section_64 for each
+abbrev pub segment_shape : ℕ → CommandShape
+segment_shape sections = shape lc_segment_64 (72 + 80 * sections)
+
+-- __PAGEZERO and __LINKEDIT
+abbrev pub bare_shape : CommandShape
+bare_shape = segment_shape 0
+
+-- __TEXT
+abbrev pub text_shape : CommandShape
+text_shape = segment_shape 3
+
+-- __DATA
+abbrev pub data_shape : CommandShape
+data_shape = segment_shape 2
+
+-- linkedit_data_command
+abbrev pub fixups_shape : CommandShape
+fixups_shape = shape lc_dyld_chained_fixups 16
+
+-- symtab_command
+abbrev pub symbols_shape : CommandShape
+symbols_shape = shape lc_symtab 24
+
+-- entry_point_command
+abbrev pub entry_shape : CommandShape
+entry_shape = shape lc_main 24
+
+-- the library that a program loads, or the library itself: dylib_command, and a name of 16 bytes
+abbrev pub library_shape : Role → CommandShape
+library_shape Main = shape lc_load_dylib 40
+library_shape Library = shape lc_id_dylib 40
+
+-- the load commands in order
 unfoldable pub shapes_of : Role → List CommandShape
 shapes_of Main =
-    shape 0x19 72 ∷ shape 0x19 312 ∷ shape 0x19 232 ∷ shape 0x19 72 ∷ shape 0x80000034 16 ∷ shape 2 24 ∷ shape 0x80000028 24
-    ∷ shape 0xc 40 ∷ []
-shapes_of Library =
-    shape 0x19 312 ∷ shape 0x19 232 ∷ shape 0x19 72 ∷ shape 0x80000034 16 ∷ shape 2 24 ∷ shape 0xd 40 ∷ []
+    bare_shape ∷ text_shape ∷ data_shape ∷ bare_shape ∷ fixups_shape ∷ symbols_shape ∷ entry_shape ∷ library_shape Main ∷ []
+shapes_of Library = text_shape ∷ data_shape ∷ bare_shape ∷ fixups_shape ∷ symbols_shape ∷ library_shape Library ∷ []
 
 -- ---- the header
 
 unfoldable pub start_of : Role → List FileField
-start_of role = four 0xfeedfacf ∷ four 0x0100000c ∷ four 2 ∷ four (file_type role) ∷ []
+start_of role = four mh_magic_64 ∷ four cpu_type_arm64 ∷ four cpu_subtype_arm64e ∷ four (file_type role) ∷ []
 
 -- the count of load commands and their size, which may not pass the file's end
 unfoldable pub counts_of : Role → ℕ → List FileField
@@ -186,7 +221,7 @@ page_zero_of len = segment_of
       size = 0x100000000;
       offset = 0;
       file_size = 0;
-      rights = 0;
+      rights = vm_prot_none;
       sections = 0;
     })
     len
@@ -199,7 +234,7 @@ text_segment h p len = segment_of
       size = p.got;
       offset = 0;
       file_size = p.got;
-      rights = 5;
+      rights = vm_prot_read + vm_prot_execute;
       sections = 3;
     })
     len
@@ -212,7 +247,7 @@ data_segment h p len = segment_of
       size = p.linkedit - p.got;
       offset = p.got;
       file_size = p.linkedit - p.got;
-      rights = 3;
+      rights = vm_prot_read + vm_prot_write;
       sections = 2;
     })
     len
@@ -225,10 +260,14 @@ linkedit_segment h p len = segment_of
       size = up 0x4000 (p.end - p.linkedit);
       offset = p.linkedit;
       file_size = p.end - p.linkedit;
-      rights = 1;
+      rights = vm_prot_read;
       sections = 0;
     })
     len
+
+-- sections of instructions and nothing else
+abbrev code_flags : ℕ
+code_flags = s_attr_pure_instructions + s_attr_some_instructions
 
 abbrev in_text : List ℕ → ℕ → ℕ → ℕ → ℕ → Section
 in_text name offset size step flags = record {
@@ -252,10 +291,10 @@ in_data name offset size step = record {
 
 -- whole words, whole stubs of four words, any bytes; whole slots, any bytes
 unfoldable pub text_section : Header → List FileField
-text_section h = section_of (base_of h.role) (in_text (codes "__text") 0x400 h.text 4 0x80000400)
+text_section h = section_of (base_of h.role) (in_text (codes "__text") 0x400 h.text 4 code_flags)
 
 unfoldable pub stubs_section : Header → Places → List FileField
-stubs_section h p = section_of (base_of h.role) (in_text (codes "__auth_stubs") p.stubs h.stubs 16 0x80000400)
+stubs_section h p = section_of (base_of h.role) (in_text (codes "__auth_stubs") p.stubs h.stubs 16 code_flags)
 
 unfoldable pub consts_section : Header → Places → List FileField
 consts_section h p = section_of (base_of h.role) (in_text (codes "__const") p.consts h.consts 1 0)

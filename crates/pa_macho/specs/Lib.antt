@@ -1,3 +1,4 @@
 pub mod Layout
+pub mod Loader
 pub mod Reading
 pub mod Writing

@@ -12,13 +12,14 @@ use Rattle.pa_macho.specs.declared.header.Role.TheVariants.{Main, Library}
 use Rattle.pa_macho.specs.declared.header.Header.{Header}
 use Rattle.pa_macho.specs.declared.places.Places.{Places}
 use Rattle.pa_macho.specs.declared.commands.CommandShape.{CommandShape}
+use Rattle.pa_macho.specs.Loader.{mh_dylib}
 use Rattle.pa_macho.specs.Layout as fields
 use Rattle.pa_macho.specs.Layout.{places_of, commands_end, text_at, shapes_of, padding_low, padding_high}
 
 -- ---- what a file tells
 
 abbrev pub role_in : List ℕ → Role
-role_in bytes = if number 4 12 bytes == 6 then Library else Main
+role_in bytes = if number 4 12 bytes == mh_dylib then Library else Main
 
 -- the sizes of sections stand in their commands, those of the other parts in the commands that name them
 abbrev pub taken_for : Role → List ℕ → Header
@@ -106,7 +107,7 @@ gap_checks role p =
     ∷ Zeros H3 p.symbols_end p.strings
     ∷ []
 
--- the first check that fails, of a file that has this header
+-- the first check that fails, of a file that tells these sizes
 unfoldable pub flaw_with : Header → Places → List ℕ → Option Flaw
 flaw_with h p bytes =
     flaw_of (length_check (length bytes)) bytes

@@ -7,6 +7,7 @@ use Rattle.pa_macho.specs.declared.header.Role.{Role}
 use Rattle.pa_macho.specs.declared.header.Role.TheVariants.{Main, Library}
 use Rattle.pa_macho.specs.declared.header.Header.{Header}
 use Rattle.pa_macho.specs.declared.places.Places.{Places}
+use Rattle.pa_macho.specs.declared.commands.CommandShape.{CommandShape}
 use Rattle.pa_macho.specs.Layout as fields
 use Rattle.pa_macho.specs.Layout.{places_of}
 use Rattle.pa_macho.specs.Reading.{gap_checks, IsHeader}
@@ -29,24 +30,20 @@ HeaderFits h = FieldsFit h (places_of h)
 
 -- ---- the bytes up to __text
 
-unfoldable pub command : ℕ → ℕ → List ℕ
-command number size = spelled (four number ∷ four size ∷ [])
+unfoldable pub command : CommandShape → List ℕ
+command shape = spelled (four shape.number ∷ four shape.size ∷ [])
 
 abbrev pub page_zero_parts : Role → ℕ → List (List ℕ)
-page_zero_parts Main len = command 0x19 72 ∷ spelled (fields.page_zero_of len) ∷ []
+page_zero_parts Main len = command fields.bare_shape ∷ spelled (fields.page_zero_of len) ∷ []
 page_zero_parts Library len = []
 
 abbrev pub entry_parts : Role → List (List ℕ)
-entry_parts Main = command 0x80000028 24 ∷ spelled fields.entry_command ∷ []
+entry_parts Main = command fields.entry_shape ∷ spelled fields.entry_command ∷ []
 entry_parts Library = []
-
-abbrev pub library_number : Role → ℕ
-library_number Main = 0xc
-library_number Library = 0xd
 
 abbrev pub library_parts : Role → List (List ℕ)
 library_parts role =
-    command (library_number role) 40 ∷ spelled fields.library_command ∷ replicate (0x400 - fields.commands_end role) 0 ∷ []
+    command (fields.library_shape role) ∷ spelled fields.library_command ∷ replicate (0x400 - fields.commands_end role) 0 ∷ []
 
 abbrev pub start_parts : Role → ℕ → List (List ℕ)
 start_parts role len =
@@ -54,13 +51,13 @@ start_parts role len =
 
 abbrev pub segment_parts : Header → Places → List (List ℕ)
 segment_parts h p =
-    command 0x19 312 ∷ spelled (fields.text_segment h p p.end) ∷ spelled (fields.text_section h)
+    command fields.text_shape ∷ spelled (fields.text_segment h p p.end) ∷ spelled (fields.text_section h)
     ∷ spelled (fields.stubs_section h p) ∷ spelled (fields.consts_section h p)
-    ∷ command 0x19 232 ∷ spelled (fields.data_segment h p p.end) ∷ spelled (fields.got_section h p)
+    ∷ command fields.data_shape ∷ spelled (fields.data_segment h p p.end) ∷ spelled (fields.got_section h p)
     ∷ spelled (fields.cells_section h p)
-    ∷ command 0x19 72 ∷ spelled (fields.linkedit_segment h p p.end)
-    ∷ command 0x80000034 16 ∷ spelled (fields.fixups_command h p)
-    ∷ command 2 24 ∷ spelled (fields.symbols_command h p) ∷ []
+    ∷ command fields.bare_shape ∷ spelled (fields.linkedit_segment h p p.end)
+    ∷ command fields.fixups_shape ∷ spelled (fields.fixups_command h p)
+    ∷ command fields.symbols_shape ∷ spelled (fields.symbols_command h p) ∷ []
 
 unfoldable pub front_with : Header → Places → List ℕ
 front_with h p =

@@ -4,6 +4,12 @@ ghost use Rattle.pa_macho.specs.declared.header.Role.TheVariants as roles;
 ghost use Rattle.pa_macho.specs.Layout.{Ordered, header_of};
 
 use crate::header::Role;
+use crate::loader::{
+    CPU_SUBTYPE_ARM64E, CPU_TYPE_ARM64, LC_DYLD_CHAINED_FIXUPS, LC_ID_DYLIB, LC_LOAD_DYLIB,
+    LC_MAIN, LC_SEGMENT_64, LC_SYMTAB, MH_DYLDLINK, MH_DYLIB, MH_EXECUTE, MH_MAGIC_64, MH_NOUNDEFS,
+    MH_PIE, MH_TWOLEVEL, S_ATTR_PURE_INSTRUCTIONS, S_ATTR_SOME_INSTRUCTIONS, VM_PROT_EXECUTE,
+    VM_PROT_NONE, VM_PROT_READ, VM_PROT_WRITE,
+};
 use crate::places::{PAGE, Places, Sizes, round_up};
 use pa_layout::FileField;
 
@@ -58,13 +64,55 @@ const CELLS: u128 = 0x6174_6164_5f5f;
 
 const LIBRARY: u128 = 0x6269_6c79_642e_6c61_7062_696c;
 
-/// Sections that hold instructions.
-const CODE: u128 = 0x8000_0400;
+/// The flags of a section of instructions and nothing else.
+const CODE: u128 = S_ATTR_PURE_INSTRUCTIONS + S_ATTR_SOME_INSTRUCTIONS;
 
-fn shape(number: u32, size: u32) -> CommandShape
-    ensures { result ≡ spec.shape number size }
+const READ_EXECUTE: u128 = VM_PROT_READ + VM_PROT_EXECUTE;
+
+const READ_WRITE: u128 = VM_PROT_READ + VM_PROT_WRITE;
+
+/// The commands of the segments `__PAGEZERO` and `__LINKEDIT`, which have no section.
+pub(crate) const BARE_SHAPE: CommandShape = CommandShape {
+    number: LC_SEGMENT_64,
+    size: 72,
+};
+
+/// That of `__TEXT` with its three sections.
+pub(crate) const TEXT_SHAPE: CommandShape = CommandShape {
+    number: LC_SEGMENT_64,
+    size: 312,
+};
+
+/// That of `__DATA` with its two sections.
+pub(crate) const DATA_SHAPE: CommandShape = CommandShape {
+    number: LC_SEGMENT_64,
+    size: 232,
+};
+
+pub(crate) const FIXUPS_SHAPE: CommandShape = CommandShape {
+    number: LC_DYLD_CHAINED_FIXUPS,
+    size: 16,
+};
+
+pub(crate) const SYMBOLS_SHAPE: CommandShape = CommandShape {
+    number: LC_SYMTAB,
+    size: 24,
+};
+
+pub(crate) const ENTRY_SHAPE: CommandShape = CommandShape {
+    number: LC_MAIN,
+    size: 24,
+};
+
+/// The command that names the library: the one that the program loads, or the library itself.
+pub(crate) fn library_shape(role: Role) -> CommandShape
+    ensures { result ≡ spec.library_shape role }
 {
-    CommandShape { number, size }
+    let number = match role {
+        Role::Main => LC_LOAD_DYLIB,
+        Role::Library => LC_ID_DYLIB,
+    };
+    CommandShape { number, size: 40 }
 }
 
 /// The load commands of a program's image.
@@ -73,14 +121,14 @@ pub(crate) fn main_shapes() -> [CommandShape; 8]
     ensures { result ≡ spec.shapes_of roles.Main }
 {
     [
-        shape(0x19, 72),
-        shape(0x19, 312),
-        shape(0x19, 232),
-        shape(0x19, 72),
-        shape(0x8000_0034, 16),
-        shape(2, 24),
-        shape(0x8000_0028, 24),
-        shape(0xc, 40),
+        BARE_SHAPE,
+        TEXT_SHAPE,
+        DATA_SHAPE,
+        BARE_SHAPE,
+        FIXUPS_SHAPE,
+        SYMBOLS_SHAPE,
+        ENTRY_SHAPE,
+        library_shape(Role::Main),
     ]
 }
 
@@ -90,12 +138,12 @@ pub(crate) fn library_shapes() -> [CommandShape; 6]
     ensures { result ≡ spec.shapes_of roles.Library }
 {
     [
-        shape(0x19, 312),
-        shape(0x19, 232),
-        shape(0x19, 72),
-        shape(0x8000_0034, 16),
-        shape(2, 24),
-        shape(0xd, 40),
+        TEXT_SHAPE,
+        DATA_SHAPE,
+        BARE_SHAPE,
+        FIXUPS_SHAPE,
+        SYMBOLS_SHAPE,
+        library_shape(Role::Library),
     ]
 }
 
@@ -104,14 +152,14 @@ pub(crate) fn start_fields(role: Role) -> [FileField; 4]
     ensures { result ≡ spec.start_of role }
 {
     let file_type = match role {
-        Role::Main => 2,
-        Role::Library => 6,
+        Role::Main => MH_EXECUTE,
+        Role::Library => MH_DYLIB,
     };
     [
-        FileField::four(0xfeed_facf),
-        FileField::four(0x0100_000c),
-        FileField::four(2),
-        FileField::four(file_type),
+        FileField::four(MH_MAGIC_64),
+        FileField::four(CPU_TYPE_ARM64),
+        FileField::four(CPU_SUBTYPE_ARM64E),
+        FileField::four(file_type as u128),
     ]
 }
 
@@ -150,8 +198,8 @@ pub(crate) fn flag_fields(role: Role) -> [FileField; 2]
     ensures { result ≡ spec.flags_of role }
 {
     let flags = match role {
-        Role::Main => 0x0020_0085,
-        Role::Library => 0x85,
+        Role::Main => MH_NOUNDEFS + MH_DYLDLINK + MH_TWOLEVEL + MH_PIE,
+        Role::Library => MH_NOUNDEFS + MH_DYLDLINK + MH_TWOLEVEL,
     };
     [FileField::four(flags), FileField::four(0)]
 }
@@ -207,7 +255,7 @@ pub(crate) fn page_zero(len: u128) -> [FileField; 9]
         size: 0x1_0000_0000,
         offset: 0,
         file_size: 0,
-        rights: 0,
+        rights: VM_PROT_NONE,
         sections: 0,
     };
     segment_fields(&segment, len)
@@ -224,7 +272,7 @@ pub(crate) fn text_segment(sizes: &Sizes, places: &Places, len: u128) -> [FileFi
         size: places.got,
         offset: 0,
         file_size: places.got,
-        rights: 5,
+        rights: READ_EXECUTE,
         sections: 3,
     };
     segment_fields(&segment, len)
@@ -242,7 +290,7 @@ pub(crate) fn data_segment(sizes: &Sizes, places: &Places, len: u128) -> [FileFi
         size,
         offset: places.got,
         file_size: size,
-        rights: 3,
+        rights: READ_WRITE,
         sections: 2,
     };
     segment_fields(&segment, len)
@@ -260,7 +308,7 @@ pub(crate) fn linkedit_segment(sizes: &Sizes, places: &Places, len: u128) -> [Fi
         size: round_up(size, PAGE),
         offset: places.linkedit,
         file_size: size,
-        rights: 1,
+        rights: VM_PROT_READ,
         sections: 0,
     };
     segment_fields(&segment, len)

@@ -1,4 +1,4 @@
-/// What an image is: the program's own, or the library that it binds to.
+/// What an image is: the program's own (a file of type MH_EXECUTE), or the library that it binds to (MH_DYLIB).
 #[derive(Clone, Copy, Debug, PartialEq, Eq)]
 pub enum Role {
     Main,
@@ -20,7 +20,7 @@ impl Role {
     }
 }
 
-/// What an image's header says: its role, and how many bytes each part has. The sections are `__text`, `__auth_stubs`,
+/// What an image's header says: its role, and how many bytes each part has; all else in it follows. The sections are `__text`, `__auth_stubs`,
 /// `__const`, `__auth_got` and `__data`; the other parts are the fixups, the symbols and the strings of `__LINKEDIT`.
 #[derive(Clone, Copy, Debug, PartialEq, Eq)]
 pub struct Header {

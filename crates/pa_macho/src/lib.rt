@@ -3,6 +3,7 @@
 
 mod commands;
 mod header;
+mod loader;
 mod places;
 mod reading;
 #[cfg(test)]

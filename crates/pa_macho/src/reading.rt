@@ -13,6 +13,7 @@ use crate::commands::{
     text_section, text_segment,
 };
 use crate::header::{Header, Role};
+use crate::loader::MH_DYLIB;
 use crate::places::{Places, Sizes};
 use pa_layout::{
     FileField, Flaw, check, check_fields, check_told, check_zeros, number_of_eight, number_of_four,
@@ -24,7 +25,7 @@ fn role_of(bytes: &[u8]) -> Role
     requires { 32 ≤ length bytes.now }
     ensures { result ≡ role_in bytes.now }
 {
-    if number_of_four(bytes, 12) == 6 {
+    if number_of_four(bytes, 12) == MH_DYLIB {
         Role::Library
     } else {
         Role::Main

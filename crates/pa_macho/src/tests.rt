@@ -162,6 +162,99 @@ fn tells_which_field_breaks(rt: HostRuntime) -> Result<(), Fail> {
 }
 
 #[test]
+fn tells_where_a_cut_library_breaks(rt: HostRuntime) -> Result<(), Fail> {
+    let mut bytes = file(rt.alloc(), &LIBRARY)?;
+    bytes.push(0)?;
+    let cuts = [
+        (727, ImageRule::H2, 20),
+        (728, ImageRule::H3, 80),
+        (16_384, ImageRule::H3, 392),
+        (32_768, ImageRule::H3, 624),
+        (32_908, ImageRule::H3, 32_907),
+    ];
+    for (len, rule, place) in cuts {
+        assert!(rt; len <= bytes.len());
+        let answer = read_header(&bytes[..len]);
+        assert_eq!(rt; answer, Err(Fault::Refused { rule, place }), "at {len}");
+    }
+    Ok(())
+}
+
+#[test]
+fn tells_which_field_of_a_library_breaks(rt: HostRuntime) -> Result<(), Fail> {
+    // A byte that changes in the library's file, and the flaw.
+    let changes = [
+        (12, 2, ImageRule::H1, 24),
+        (16, 8, ImageRule::H2, 16),
+        (36, 72, ImageRule::H2, 32),
+        (688, 0xc, ImageRule::H4, 688),
+        (600, 1, ImageRule::H3, 600),
+        (712, 0, ImageRule::H3, 712),
+        (728, 1, ImageRule::H3, 728),
+    ];
+    for (at, byte, rule, place) in changes {
+        let mut bytes = file(rt.alloc(), &LIBRARY)?;
+        assert!(rt; at < bytes.len());
+        bytes[at] = byte;
+        let answer = read_header(&bytes);
+        assert_eq!(rt; answer, Err(Fault::Refused { rule, place }), "at {at}");
+    }
+    Ok(())
+}
+
+#[test]
+fn tells_sizes_that_the_file_has_not(rt: HostRuntime) -> Result<(), Fail> {
+    // A size of 8 bytes that changes in the program's file, and the flaw, or no flaw: `__text`, `__auth_stubs`,
+    // `__auth_got`, `__data`, `__const`.
+    let rule = ImageRule::H3;
+    let changes: [(usize, u64, Option<u64>); 8] = [
+        (216, 0xffff_ffff_ffff_fffc, Some(136)),
+        (216, 8, Some(288)),
+        (296, 8, Some(296)),
+        (528, 2, Some(528)),
+        (528, 8, Some(600)),
+        (608, 0xffff_ffff_ffff_ffff, Some(448)),
+        (608, 8, None),
+        (376, 2, None),
+    ];
+    for (at, size, flaw) in changes {
+        let mut bytes = file(rt.alloc(), &PROGRAM)?;
+        assert!(rt; at + 8 <= bytes.len());
+        bytes[at..at + 8].copy_from_slice(&size.to_le_bytes());
+        match (read_header(&bytes), flaw) {
+            (Err(fault), Some(place)) => {
+                assert_eq!(rt; fault, Fault::Refused { rule, place }, "at {at}");
+            }
+            (answer, _) => assert!(rt; answer.is_ok() && flaw.is_none(), "at {at}"),
+        }
+    }
+    // The same of one of 4 bytes: the fixups' size, and the count of symbols.
+    for (at, size, place) in [(732, 0xffff_ffff_u32, 680), (748, 2, 696)] {
+        let mut bytes = file(rt.alloc(), &PROGRAM)?;
+        assert!(rt; at + 4 <= bytes.len());
+        bytes[at..at + 4].copy_from_slice(&size.to_le_bytes());
+        let answer = read_header(&bytes);
+        assert_eq!(rt; answer, Err(Fault::Refused { rule, place }), "at {at}");
+    }
+    Ok(())
+}
+
+#[test]
+fn fixups_may_end_before_their_imports(rt: HostRuntime) -> Result<(), Fail> {
+    // With two pages the starts end behind 82 bytes and the padding behind 84.
+    for fixups in [60, 82, 83] {
+        let header = Header {
+            cells: 0x4001,
+            fixups,
+            ..PROGRAM
+        };
+        let bytes = file(rt.alloc(), &header)?;
+        assert_eq!(rt; read_header(&bytes), Ok(header));
+    }
+    Ok(())
+}
+
+#[test]
 fn tells_the_padding_of_the_fixups(rt: HostRuntime) -> Result<(), Fail> {
     // Two pages have four bytes of starts, and two bytes stand before the imports.
     let header = Header {

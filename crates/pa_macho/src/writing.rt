@@ -5,9 +5,10 @@ ghost use Rattle.pa_macho.specs.Writing as spec;
 ghost use Rattle.pa_macho.specs.Writing.{FieldsFit, HeaderFits, IsFront, front_with};
 
 use crate::commands::{
+    BARE_SHAPE, CommandShape, DATA_SHAPE, ENTRY_SHAPE, FIXUPS_SHAPE, SYMBOLS_SHAPE, TEXT_SHAPE,
     cells_section, commands_end, consts_section, count_fields, data_segment, entry_command,
-    fixups_command, flag_fields, got_section, library_command, linkedit_segment, page_zero,
-    start_fields, stubs_section, symbols_command, text_section, text_segment,
+    fixups_command, flag_fields, got_section, library_command, library_shape, linkedit_segment,
+    page_zero, start_fields, stubs_section, symbols_command, text_section, text_segment,
 };
 use crate::header::{Header, Role};
 use crate::places::{Places, Sizes};
@@ -48,16 +49,12 @@ pub fn header_fits(header: &Header) -> bool
 
 /// Appends a command's number and size.
 #[tactic(auto, unfolding(crate::specs::Writing::command))]
-fn put_command(out: &mut Vec<u8>, number: u32, size: u32) -> Result<(), AllocError>
-    ensures { OnOk result (out.new.items ≡ out.old.items ++ spec.command number size) }
+fn put_command(out: &mut Vec<u8>, shape: CommandShape) -> Result<(), AllocError>
+    ensures { OnOk result (out.new.items ≡ out.old.items ++ spec.command shape) }
 {
-    put_fields(
-        out,
-        &[
-            FileField::four(number as u128),
-            FileField::four(size as u128),
-        ],
-    )
+    let number = FileField::four(shape.number as u128);
+    let size = FileField::four(shape.size as u128);
+    put_fields(out, &[number, size])
 }
 
 #[tactic(auto, using(crate::proofs::Fits::page_zero_fits))]
@@ -66,7 +63,7 @@ fn put_page_zero(out: &mut Vec<u8>, role: Role, len: u128) -> Result<(), AllocEr
 {
     match role {
         Role::Main => {
-            put_command(out, 0x19, 72)?;
+            put_command(out, BARE_SHAPE)?;
             put_fields(out, &page_zero(len))
         }
         Role::Library => Ok(()),
@@ -79,20 +76,10 @@ fn put_entry(out: &mut Vec<u8>, role: Role) -> Result<(), AllocError>
 {
     match role {
         Role::Main => {
-            put_command(out, 0x8000_0028, 24)?;
+            put_command(out, ENTRY_SHAPE)?;
             put_fields(out, &entry_command())
         }
         Role::Library => Ok(()),
-    }
-}
-
-/// The number of the command that names the library: the one that the program loads, or the library itself.
-fn library_number(role: Role) -> u32
-    ensures { result ≡ spec.library_number role }
-{
-    match role {
-        Role::Main => 0xc,
-        Role::Library => 0xd,
     }
 }
 
@@ -101,7 +88,7 @@ fn library_number(role: Role) -> u32
 fn put_library(out: &mut Vec<u8>, role: Role) -> Result<(), AllocError>
     ensures { OnOk result (out.new.items ≡ out.old.items ++ concat (spec.library_parts role)) }
 {
-    put_command(out, library_number(role), 40)?;
+    put_command(out, library_shape(role))?;
     put_fields(out, &library_command())?;
     put_zeros(out, FRONT - commands_end(role) as usize)
 }
@@ -122,20 +109,20 @@ fn put_segments(out: &mut Vec<u8>, sizes: &Sizes, places: &Places) -> Result<(),
     ensures { OnOk result (out.new.items ≡ out.old.items ++ concat (spec.segment_parts (header_of sizes.now) places.now)) }
 {
     let len = places.end;
-    put_command(out, 0x19, 312)?;
+    put_command(out, TEXT_SHAPE)?;
     put_fields(out, &text_segment(sizes, places, len))?;
     put_fields(out, &text_section(sizes))?;
     put_fields(out, &stubs_section(sizes, places))?;
     put_fields(out, &consts_section(sizes, places))?;
-    put_command(out, 0x19, 232)?;
+    put_command(out, DATA_SHAPE)?;
     put_fields(out, &data_segment(sizes, places, len))?;
     put_fields(out, &got_section(sizes, places))?;
     put_fields(out, &cells_section(sizes, places))?;
-    put_command(out, 0x19, 72)?;
+    put_command(out, BARE_SHAPE)?;
     put_fields(out, &linkedit_segment(sizes, places, len))?;
-    put_command(out, 0x8000_0034, 16)?;
+    put_command(out, FIXUPS_SHAPE)?;
     put_fields(out, &fixups_command(sizes, places))?;
-    put_command(out, 2, 24)?;
+    put_command(out, SYMBOLS_SHAPE)?;
     put_fields(out, &symbols_command(sizes, places))?;
     Ok(())
 }

@@ -11,39 +11,29 @@ use Rattle.std.proofs.lemmas.List.Elements.{filter-append}
 use Rattle.std.proofs.lemmas.List.Folds.{list_any-append}
 use Rattle.std.proofs.lemmas.Map.Keys.{IsDistinct-push}
 use Rattle.std.proofs.Math.Seq.{take-suc}
+use Rattle.pa_names.specs.declared.key.TextKey.{TextKey}
 use Rattle.pa_object.specs.declared.object.Mark.{Mark}
 use Rattle.pa_symbols.specs.Symbols.{Text, names_of, public_names}
-use Rattle.pa_symbols.specs.Legal.{public_among, hash_of, has_bit, Covers}
+use Rattle.pa_symbols.specs.Legal.{public_among, hash_of, has_bits, Covers}
 use Rattle.pa_symbols.proofs.Found.{and_second, public_here, public_not_here}
 
 -- ---- the table
 
-false_and_true : (b : Bool) → b ≡ false → b ≡ true → ⊥
-false_and_true b f t = cc
-
-false_unless : (a b : Bool) → (a ≡ true → b ≡ true) → b ≡ false → a ≡ false
-false_unless true b h f = absurd (false_and_true b f (h refl))
-false_unless false b h f = refl
-
--- a name whose bit isn't there is new
-pub not_covered : (marks : List Mark) (table name : List ℕ) → Covers table marks → has_bit table (hash_of name) ≡ false → public_among marks name ≡ false
-not_covered marks table name c f = false_unless (public_among marks name) (has_bit table (hash_of name)) (c name) f
-
-pub none_covered : (table : List ℕ) → Covers table []
-none_covered table = λ name h. absurd cc
+pub none_covered : (key : TextKey) (table : List ℕ) → Covers key table []
+none_covered key table = λ name h. absurd cc
 
 covers_case : (a b c : Bool) → (a ≡ true → c ≡ true) → (b ≡ true → c ≡ true) → (a || (b || false)) ≡ true → c ≡ true
 covers_case true b c f g h = f refl
 covers_case false true c f g h = g refl
 covers_case false false c f g h = absurd cc
 
-pub covers_on : (before : List Mark) (mark : Mark) (old new : List ℕ) → Covers old before → ((hash : ℕ) → has_bit old hash ≡ true → has_bit new hash ≡ true) → (mark.public ≡ true → has_bit new (hash_of mark.name) ≡ true) → Covers new (before ++ mark ∷ [])
-covers_on before mark old new c kept put = λ name h.
-    covers_case (public_among before name) (mark.public && bytes_eq name mark.name) (has_bit new (hash_of name)) (λ a. kept (hash_of name) (c name a))
+pub covers_on : (key : TextKey) (before : List Mark) (mark : Mark) (old new : List ℕ) → Covers key old before → ((hash : ℕ) → has_bits old hash ≡ true → has_bits new hash ≡ true) → (mark.public ≡ true → has_bits new (hash_of key mark.name) ≡ true) → Covers key new (before ++ mark ∷ [])
+covers_on key before mark old new c kept put = λ name h.
+    covers_case (public_among before name) (mark.public && bytes_eq name mark.name) (has_bits new (hash_of key name)) (λ a. kept (hash_of key name) (c name a))
     (λ b.
     let parts = and_parts mark.public (bytes_eq name mark.name) b in
     let same : name ≡ mark.name = (bytes_eq-Decides name mark.name).0 parts.1 in
-    subst (λ (n : Text). has_bit new (hash_of n) ≡ true) (sym same) (put parts.0))
+    subst (λ (n : Text). has_bits new (hash_of key n) ≡ true) (sym same) (put parts.0))
     (sym (list_any-append (λ (m : Mark). m.public && bytes_eq name m.name) before (mark ∷ [])) ∙ h)
 
 -- ---- public names of marks behind marks

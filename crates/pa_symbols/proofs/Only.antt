@@ -3,7 +3,7 @@ use Rattle.std.proofs.Common.{◌≡◌, ◌≢◌, ℕ, zero, suc, ◌+◌, ◌
 use Rattle.std.specs.Prelude.{All, IfOk}
 use Rattle.std.specs.List.{IsDistinct, AllByRecursion, before_first}
 use Rattle.std.specs.Str.{bytes_eq}
-use Rattle.std.proofs.lemmas.Bool.{ne_eqb, eq-eqb, and_parts, and_from, not_from_false, le-leb, lt-ltb}
+use Rattle.std.proofs.lemmas.Bool.{eq-eqb, and_parts, and_from, not_from_false, le-leb, lt-ltb}
 use Rattle.std.proofs.lemmas.List.{length-append, drop-drop}
 use Rattle.std.proofs.lemmas.List.Elements.{All-head, All-tail}
 use Rattle.pa_num.specs.declared.fault.ImageRule.{ImageRule}

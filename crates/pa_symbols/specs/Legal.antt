@@ -1,9 +1,12 @@
--- The test of legal marks: what a mark needs by itself and beside the one before it, and a table that tells most public
--- names apart at once.
-use Rattle.std.specs.Prelude.{◌≡◌, ℕ, ◌+◌, ◌*◌, ◌/◌, ◌%◌, ◌^◌, Bool, true, not, ◌&&◌, ◌==◌, nat_le, nat_lt, List, [], ◌∷◌, length, slice_index, fold}
+-- The test of legal marks: what a mark needs by itself and beside the one before it, and a table of bits that tells most
+-- public names apart at once (a Bloom filter with three bits a name).
+use Rattle.std.specs.Prelude.{◌≡◌, ℕ, ◌+◌, ◌*◌, ◌/◌, ◌%◌, ◌^◌, ◌++◌, Bool, true, not, ◌&&◌, ◌==◌, nat_le, nat_lt, if◌then◌else◌, List, [], ◌∷◌, length, slice_index}
 use Rattle.std.specs.Int.{bit_at}
 use Rattle.std.specs.List.{list_any}
+use Rattle.std.specs.Hash.DefaultHasher as sip
 use Rattle.std.specs.Str.{bytes_eq}
+use Rattle.pa_names.specs.declared.key.TextKey.{TextKey}
+use Rattle.pa_names.specs.Key.{piece, start}
 use Rattle.pa_layout.specs.Fields.{all_have_room}
 use Rattle.pa_layout.specs.Names.{is_name}
 use Rattle.pa_object.specs.declared.object.Mark.{Mark}
@@ -30,17 +33,40 @@ marks_stand text place least (mark ∷ marks) =
 abbrev pub public_among : List Mark → Text → Bool
 public_among marks name = list_any (λ mark. mark.public && bytes_eq name mark.name) marks
 
-abbrev pub hash_step : ℕ → ℕ → ℕ
-hash_step hash byte = (hash + byte) * 16777619 % 2 ^ 32
+-- what a mark adds to the message of the key: its name where it is public
+abbrev pub own_message : Mark → List ℕ
+own_message mark = if mark.public then piece mark.name else []
 
--- a number below 2 ^ 20 that is the same for equal names
-abbrev pub hash_of : Text → ℕ
-hash_of name = fold hash_step 0 name / 2 ^ 12
+-- the public names in order, whose digest is the key that they are hashed under
+abbrev pub message : List Mark → List ℕ
+message [] = []
+message (mark ∷ marks) = own_message mark ++ message marks
 
--- the table has the bit of a hash
+-- SipHash-1-3 under the key
+abbrev pub hash_of : TextKey → Text → ℕ
+hash_of key name = sip.finish (sip.write (start key) name)
+
+-- how many bits each of the table's three parts has
+abbrev pub part_size : ℕ
+part_size = 0x200000
+
+-- the place of a hash's bit in each part, by 21 bits of the hash
+abbrev pub first_bit : ℕ → ℕ
+first_bit hash = hash % part_size
+
+abbrev pub second_bit : ℕ → ℕ
+second_bit hash = part_size + hash / 2 ^ 21 % part_size
+
+abbrev pub third_bit : ℕ → ℕ
+third_bit hash = 2 * part_size + hash / 2 ^ 42 % part_size
+
 abbrev pub has_bit : List ℕ → ℕ → Bool
-has_bit table hash = bit_at (slice_index table (hash / 64)) (hash % 64) == 1
+has_bit table bit = bit_at (slice_index table (bit / 64)) (bit % 64) == 1
+
+-- the table has the three bits of a hash
+abbrev pub has_bits : List ℕ → ℕ → Bool
+has_bits table hash = has_bit table (first_bit hash) && (has_bit table (second_bit hash) && has_bit table (third_bit hash))
 
 -- the table has the bits of the public names, and may have others
-abbrev pub Covers : List ℕ → List Mark → Type 0
-Covers table marks = (name : Text) → public_among marks name ≡ true → has_bit table (hash_of name) ≡ true
+abbrev pub Covers : TextKey → List ℕ → List Mark → Type 0
+Covers key table marks = (name : Text) → public_among marks name ≡ true → has_bits table (hash_of key name) ≡ true

@@ -1,16 +1,22 @@
-ghost use Rattle.std.specs.Prelude.{◌≡◌, ◌<◌, ◌^◌, ◌↔◌, ℕ, true, ◌&&◌, [], ◌∷◌, ◌++◌, length, IsTrue};
+ghost use Rattle.std.specs.Prelude.{◌≡◌, ◌<◌, ◌*◌, ◌^◌, ◌↔◌, ℕ, List, true, ◌&&◌, [], ◌∷◌, ◌++◌, length, IsTrue};
 ghost use Rattle.std.specs.List.{IsDistinct};
 ghost use Rattle.std.specs.Str.{bytes_eq};
+ghost use Rattle.pa_names.specs.Key.{Took, start, started};
 ghost use Rattle.pa_symbols.specs.Legal as spec;
 ghost use Rattle.pa_symbols.specs.Symbols.{AreLegal, public_names};
 
 use crate::places::TextAt;
 use crate::writing::entry_fields;
 use pa_layout::{all_fit, is_name};
+use pa_names::{TextDigest, TextKey};
 use pa_object::Mark;
+use std::hash::{BuildHasher, Hasher};
 
-// How many words a table of bits has: a bit for each hash.
-const TABLE: usize = 16384;
+/// How many bits each of the three parts of a table of names has.
+const PART: u64 = 0x20_0000;
+
+/// How many words such a table has.
+const TABLE: usize = 98304;
 
 /// The mark stands at a word of the code from the least one on, and its name and its entry's fields can be spelled.
 #[tactic(auto, unfolding(crate::specs::Legal::mark_stands))]
@@ -41,31 +47,60 @@ fn marks_stand(marks: &[Mark], text: TextAt) -> bool
     true
 }
 
-/// A number below 2^20 that is the same for equal names. Each byte is added before the multiplication (by FNV's prime), so
-/// the upper bits, which are taken, depend on the last byte too.
-fn hash(name: &[u8]) -> usize
-    ensures value { result ≡ spec.hash_of name.now }
-    ensures small { result < 2 ^ 20 }
+/// Takes in what the mark adds to the key.
+fn add_mark(digest: &mut TextDigest, mark: &Mark)
+    ensures { (message : List ℕ) → Took digest.old message → Took digest.new (message ++ spec.own_message mark.now) }
 {
-    let mut hash: u64 = 0;
-    for byte in name {
-        hash = (hash + *byte as u64) * 0x0100_0193 % 0x1_0000_0000;
+    if mark.public {
+        digest.add(mark.name.as_slice());
     }
-    (hash >> 12) as usize
 }
 
-/// Puts the bit of the hash into the table, and answers whether it was there.
-fn put_bit(table: &mut [u64], hash: usize) -> bool
-    requires size { length table.old ≡ 16384 }
-    requires small { hash < 2 ^ 20 }
-    ensures was { result ≡ spec.has_bit table.old hash }
-    ensures put { spec.has_bit table.new hash ≡ true }
+/// The key that the public names are hashed under, which are all that decides it.
+fn key_of(marks: &[Mark]) -> TextKey
+    ensures { start result ≡ started (spec.message marks.now) }
+{
+    let mut digest = TextDigest::new();
+    for mark in marks {
+        add_mark(&mut digest, mark);
+    }
+    digest.finish()
+}
+
+fn hash(key: TextKey, name: &[u8]) -> u64
+    ensures { result ≡ spec.hash_of key name.now }
+{
+    let mut hasher = key.build_hasher();
+    hasher.write(name);
+    hasher.finish()
+}
+
+/// Puts a bit into the table, and answers whether it was there.
+fn put_bit(table: &mut [u64], bit: u64) -> bool
+    requires size { length table.old ≡ 98304 }
+    requires small { bit < 3 * spec.part_size }
+    ensures was { result ≡ spec.has_bit table.old bit }
+    ensures put { spec.has_bit table.new bit ≡ true }
     ensures kept { (other : ℕ) → spec.has_bit table.old other ≡ true → spec.has_bit table.new other ≡ true }
 {
-    let bits = table[hash / 64];
-    let bit = (hash % 64) as u32;
-    table[hash / 64] = bits | (1 << bit);
-    (bits >> bit) & 1 == 1
+    let word = (bit / 64) as usize;
+    let bits = table[word];
+    let place = (bit % 64) as u32;
+    table[word] = bits | (1 << place);
+    (bits >> place) & 1 == 1
+}
+
+/// Puts the bits of the hash into the table, and answers whether all may have been there.
+fn put_bits(table: &mut [u64], hash: u64) -> bool
+    requires size { length table.old ≡ 98304 }
+    ensures was { spec.has_bits table.old hash ≡ true → result ≡ true }
+    ensures put { spec.has_bits table.new hash ≡ true }
+    ensures kept { (other : ℕ) → spec.has_bits table.old other ≡ true → spec.has_bits table.new other ≡ true }
+{
+    let first = put_bit(table, hash % PART);
+    let second = put_bit(table, PART + (hash >> 21) % PART);
+    let third = put_bit(table, 2 * PART + (hash >> 42) % PART);
+    first && second && third
 }
 
 /// One of the marks is public and has that name.
@@ -77,32 +112,31 @@ fn is_among(marks: &[Mark], name: &[u8]) -> bool
         .any(|mark| mark.public && name == mark.name.as_slice())
 }
 
-/// The mark is public, and so is one before it with the same name. A name whose bit isn't in the table is new; for any
+/// The mark is public, and so is one before it with the same name. A name whose bits aren't all in the table is new; for any
 /// other one the marks before it are searched.
-#[tactic(auto, using(crate::proofs::Distinct::not_covered))]
-fn is_told_twice(before: &[Mark], mark: &Mark, table: &mut [u64]) -> bool
-    requires size { length table.old ≡ 16384 }
-    requires covers { spec.Covers table.old before.now }
+fn is_told_twice(key: TextKey, before: &[Mark], mark: &Mark, table: &mut [u64]) -> bool
+    requires size { length table.old ≡ 98304 }
+    requires covers { spec.Covers key table.old before.now }
     ensures twice { result ≡ (mark.now.public && spec.public_among before.now mark.now.name) }
-    ensures covers { spec.Covers table.new (before.now ++ mark.now ∷ []) }
+    ensures covers { spec.Covers key table.new (before.now ++ mark.now ∷ []) }
 {
     if !mark.public {
         return false;
     }
     let name = mark.name.as_slice();
-    if !put_bit(table, hash(name)) {
+    if !put_bits(table, hash(key, name)) {
         return false;
     }
     is_among(before, name)
 }
 
 /// No two of the public names are equal. The table may have any bits.
-fn are_distinct_by(marks: &[Mark], table: &mut [u64]) -> bool
-    requires { length table.old ≡ 16384 }
+fn are_distinct_by(key: TextKey, marks: &[Mark], table: &mut [u64]) -> bool
+    requires { length table.old ≡ 98304 }
     ensures { IsTrue result ↔ IsDistinct bytes_eq (public_names marks.now) }
 {
     for (k, mark) in marks.iter().enumerate() {
-        if is_told_twice(&marks[..k], mark, table) {
+        if is_told_twice(key, &marks[..k], mark, table) {
             return false;
         }
     }
@@ -113,12 +147,14 @@ fn are_distinct_by(marks: &[Mark], table: &mut [u64]) -> bool
 fn are_distinct(marks: &[Mark]) -> bool
     ensures { IsTrue result ↔ IsDistinct bytes_eq (public_names marks.now) }
 {
-    are_distinct_by(marks, &mut [0; TABLE])
+    are_distinct_by(key_of(marks), marks, &mut [0; TABLE])
 }
 
-/// Whether some symbols and strings stand for the marks. It takes no memory but a table of fixed size on the stack, and
-/// time in proportion to the names, as long as few of the public ones share a hash: each one whose bit another has taken
-/// is compared with those before it.
+/// Whether some symbols and strings stand for the marks. It takes no memory but a table of fixed size (768 KiB) on the stack.
+///
+/// The answer is exact; the table only saves time. A public name is compared with those before it where all of its three bits
+/// are taken: of 60,000 names one in a million is by chance, of 500,000, which is what an image of 16 MiB has room for, one in
+/// 400. The hashes are keyed by the public names themselves, so names can't be picked so that more are.
 pub fn legal_marks(marks: &[Mark], text: TextAt) -> bool
     ensures { IsTrue result ↔ AreLegal text marks.now }
 {

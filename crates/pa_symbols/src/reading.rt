@@ -5,9 +5,8 @@ ghost use Rattle.pa_symbols.specs.Names.{is_noted};
 ghost use Rattle.pa_symbols.specs.Reading as spec;
 
 use crate::entry::{ENTRY_SIZE, Entry, ascends};
-use crate::names::{is_first, name_at};
+use crate::names::{PublicNames, is_first, key_of, name_at};
 use crate::places::{SymbolsAt, TextAt};
-use indexmap::IndexSet;
 use pa_layout::check;
 use pa_num::{Fault, ImageRule, Memory, Name};
 use pa_object::{Mark, Marks};
@@ -23,7 +22,7 @@ fn read_mark<'a>(
     text: TextAt,
     k: usize,
     due: usize,
-    names: &mut IndexSet<&'a [u8]>,
+    names: &mut PublicNames<'a>,
 ) -> Result<Option<Mark>, Memory>
     requires inside { 16 * k + 16 ≤ length symbols.now }
     requires due { due ≡ spec.due_place symbols.now strings.now k }
@@ -72,7 +71,7 @@ fn read_marks<'a>(
         (first (spec.entry_checks text at symbols.now strings.now 0 (spec.count_in symbols.now)) symbols.now) }
 {
     let mut marks = Marks::new(alloc);
-    let mut names = IndexSet::new(alloc);
+    let mut names = PublicNames::with_hasher(alloc, key_of(symbols, strings));
     let mut due = 1;
     for k in 0..symbols.len() / ENTRY_SIZE {
         let read = read_mark(alloc, symbols, strings, text, k, due, &mut names)?;

@@ -7,7 +7,7 @@ use Rattle.pa_symbols.proofs.Distinct.{none_covered, no_names, take_on, marks_ap
 use Rattle.pa_symbols.proofs.legal.are_distinct_by.Goals as goal
 
 pub loop-k-init : goal.loop-k-init
-loop-k-init c = record { covers = none_covered c.args.table.now; distinct = no_names }
+loop-k-init c = record { covers = none_covered c.args.key c.args.table.now; distinct = no_names }
 
 pub returns-then-is_told_twice : goal.returns-then-is_told_twice
 returns-then-is_told_twice c =
@@ -26,6 +26,6 @@ loop-k-preserved c =
     let taken = take_on marks k mark (omega arith) c.index-marks-k.is in
     let once = sym c.is_told_twice.ensures.twice ∙ c.if-is_told_twice.false in
     record {
-      covers = subst (Covers c.is_told_twice.new.table) taken c.is_told_twice.ensures.covers;
+      covers = subst (Covers c.args.key c.is_told_twice.new.table) taken c.is_told_twice.ensures.covers;
       distinct = subst (λ l. IsDistinct bytes_eq (public_names l)) taken (distinct_on (take k marks) mark c.loop-k.invariant.distinct once);
     }
