@@ -3,34 +3,27 @@
 ghost use Rattle.std.specs.Prelude.{◌≡◌};
 ghost use Rattle.std.specs.Option.{option_copied};
 ghost use Rattle.pa_tree.specs.Cursors as cursors;
-ghost use Rattle.pa_tree.specs.Spells as grammar;
 ghost use Rattle.pa_pexpr.specs.Reading as reading;
 ghost use Rattle.pa_pexpr.specs.Reads.{Reads};
 
 use crate::reader::Reader;
 use crate::rule::{ParseError, SynRule};
+use crate::type_names::TypeNames;
 use pa_lex::{Keyword, Kind, Token};
 use pa_num::Name;
 use pa_tree::Tag;
 use std::alloc::Global;
 
-/// The name is one of these type names.
-pub fn is_type(names: &[Name], name: &Name) -> bool
-    ensures { result ≡ grammar.is_type names.now name.now }
-{
-    names.iter().any(|n| n.as_slice() == name.as_slice())
-}
-
 /// A name that is no type name, with its place.
 #[tactic(auto, unfolding(crate::specs::Reading::plain_name))]
-pub fn plain_name(alloc: Global, names: &[Name], r: &mut Reader<'_>) -> Result<Tag, ParseError>
+pub fn plain_name(alloc: Global, names: &TypeNames, r: &mut Reader<'_>) -> Result<Tag, ParseError>
     ensures { Reads (λ x. x) (reading.plain_name names.now r.old) result r.new }
 {
     let Some(t) = r.peek() else {
         return Err(ParseError::Broken(SynRule::S1));
     };
     match &t.kind {
-        Kind::Name(n) if !is_type(names, n) => {
+        Kind::Name(n) if !names.contains(n) => {
             let name = Name::from_slice(alloc, n.as_slice())?;
             r.take(t);
             Ok(Tag {
@@ -65,12 +58,12 @@ fn begins_type_word(keyword: Keyword) -> bool
 }
 
 /// A type begins with the next token.
-pub fn begins_type(names: &[Name], next: Option<&Token>) -> bool
+pub fn begins_type(names: &TypeNames, next: Option<&Token>) -> bool
     ensures { result ≡ reading.begins_type names.now (option_copied next.entry) }
 {
     match next {
         Some(t) => match &t.kind {
-            Kind::Name(n) => is_type(names, n),
+            Kind::Name(n) => names.contains(n),
             Kind::Keyword(keyword) => begins_type_word(*keyword),
             _ => false,
         },

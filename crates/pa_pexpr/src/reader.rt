@@ -1,6 +1,6 @@
 //! A reader stands before a token.
 
-ghost use Rattle.std.specs.Prelude.{◌≡◌, ◌≤◌, OnOk, Ok};
+ghost use Rattle.std.specs.Prelude.{◌≡◌, ◌≤◌, length, OnOk, Ok};
 ghost use Rattle.std.specs.Option.{option_copied};
 ghost use Rattle.pa_tree.specs.Cursors as cursors;
 ghost use Rattle.pa_pexpr.specs.Parser as spec;
@@ -36,6 +36,20 @@ impl<'a> Reader<'a> {
         Reader { ahead, ended: 0 }
     }
 
+    /// Before these tokens, where the token in front of them ends there.
+    pub fn behind(ahead: &'a [Token], ended: u32) -> Reader<'a>
+        ensures { result ≡ record { ended = ended; ahead = ahead.now } }
+    {
+        Reader { ahead, ended }
+    }
+
+    /// How many tokens are ahead.
+    pub fn left(&self) -> usize
+        ensures { result ≡ length self.now.ahead }
+    {
+        self.ahead.len()
+    }
+
     /// The next token.
     pub fn peek(&self) -> Option<&'a Token>
         ensures { option_copied result ≡ cursors.head self.now.ahead }
@@ -48,6 +62,16 @@ impl<'a> Reader<'a> {
         ensures { result ≡ self.now.ended }
     {
         self.ended
+    }
+
+    /// Where the next token begins, or 0 where none is left.
+    pub fn begin(&self) -> u32
+        ensures { result ≡ cursors.from_of (cursors.head self.now.ahead) }
+    {
+        match self.peek() {
+            Some(t) => t.from,
+            None => 0,
+        }
     }
 
     /// Goes behind the next token, which is this one.

@@ -37,6 +37,22 @@ pub enum Level {
     Cond,
 }
 
+impl Level {
+    ghost use Rattle.std.specs.Prelude.{◌≡◌};
+    ghost use Rattle.pa_pexpr.specs.Answers as answers;
+
+    /// The number of the nonterminal.
+    pub fn number(self) -> u8
+        ensures { result ≡ answers.level_number self }
+    {
+        match self {
+            Level::Expr => 0,
+            Level::Assign => 1,
+            Level::Cond => 2,
+        }
+    }
+}
+
 /// Whether a declarator has a name: it has to, it must not, or either.
 #[derive(Clone, Copy, Debug, PartialEq, Eq)]
 pub enum Naming {
