@@ -1,16 +1,1 @@
-pub mod Answers
-pub mod Bodies
-pub mod Commas
-pub mod Counted
-pub mod Infixes
-pub mod Inside
-pub mod Nests
-pub mod Noted
-pub mod Parser
-pub mod Parts
-pub mod Reading
-pub mod Reads
 pub mod Shown
-pub mod Suffixes
-pub mod Tokens
-pub mod Voids

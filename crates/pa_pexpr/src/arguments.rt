@@ -4,16 +4,14 @@ ghost use Rattle.std.specs.Prelude.{◌≡◌, ◌≤◌, ◌<◌, ◌∷◌, []
 ghost use Rattle.pa_lex.specs.declared.token.Punct.TheVariants as p;
 ghost use Rattle.pa_tree.specs.Heights.{expr_height};
 ghost use Rattle.pa_tree.specs.Views.{expr_tree};
-ghost use Rattle.pa_pexpr.specs.Commas.{behind_comma};
-ghost use Rattle.pa_pexpr.specs.Nests.{NestsExpr, ReadsExpr, Measured, ReadsExprs, MeasuredExprs};
-ghost use Rattle.pa_pexpr.specs.Parser as parser;
-ghost use Rattle.pa_pexpr.specs.Reading as reading;
+ghost use Rattle.pa_reading.specs.Commas.{behind_comma};
+ghost use Rattle.pa_reading.specs.Nests.{NestsExpr, ReadsExpr, Measured, ReadsExprs, MeasuredExprs};
+ghost use Rattle.pa_reading.specs.Parser as parser;
+ghost use Rattle.pa_reading.specs.Reading as reading;
 
 use crate::below::Below;
-use crate::reader::Reader;
-use crate::rule::{Naming, ParseError};
-use crate::type_names::TypeNames;
 use pa_lex::Punct;
+use pa_reading::{Naming, ParseError, Reader, TypeNames};
 use pa_tree::{Declarator, Expr, Specs};
 use sqlite_items::Items;
 use std::alloc::Global;
@@ -33,13 +31,13 @@ impl<
 > Below<'a, F, G, H, I> {
     /// A comma and an argument behind it.
     fn next_argument(&self, r: &mut Reader<'_>) -> Result<(Expr, u32), ParseError>
-        requires nests { NestsExpr self.now.depth (F.pre self.now.expr) (F.post self.now.expr) }
-        ensures value { ReadsExpr ((behind_comma ((reading.parsers self.now.names.now self.now.depth).expr 1)) r.old) result r.new }
-        ensures measured { Measured self.now.depth result }
+        requires nests { NestsExpr self.now.parts.depth (F.pre self.now.parts.expr) (F.post self.now.parts.expr) }
+        ensures value { ReadsExpr ((behind_comma ((reading.parsers self.now.parts.names.now self.now.parts.depth).expr 1)) r.old) result r.new }
+        ensures measured { Measured self.now.parts.depth result }
         ensures fewer { OnOk result (length r.new.ahead < length r.old.ahead) }
     {
         r.expect(Punct::Comma)?;
-        self.part(r, 1)
+        self.parts.part(r, 1)
     }
 
     /// The arguments behind the first one, and the greatest height of all.
@@ -49,14 +47,14 @@ impl<
         r: &mut Reader<'_>,
         first: (Expr, u32),
     ) -> Result<(Items<Expr>, u32), ParseError>
-        requires nests { NestsExpr self.now.depth (F.pre self.now.expr) (F.post self.now.expr) }
+        requires nests { NestsExpr self.now.parts.depth (F.pre self.now.parts.expr) (F.post self.now.parts.expr) }
         requires first_height { first.1 ≡ expr_height (expr_tree first.0) }
-        requires first_fits { first.1 ≤ self.now.depth }
-        ensures value { ReadsExprs (parser.many (parser.sees p.Comma) (behind_comma ((reading.parsers self.now.names.now self.now.depth).expr 1)) (expr_tree first.0 ∷ []) r.old) result r.new }
-        ensures measured { MeasuredExprs self.now.depth result }
+        requires first_fits { first.1 ≤ self.now.parts.depth }
+        ensures value { ReadsExprs (parser.many (parser.sees p.Comma) (behind_comma ((reading.parsers self.now.parts.names.now self.now.parts.depth).expr 1)) (expr_tree first.0 ∷ []) r.old) result r.new }
+        ensures measured { MeasuredExprs self.now.parts.depth result }
     {
         let mut height = first.1;
-        let mut all = Items::new(self.alloc);
+        let mut all = Items::new(self.parts.alloc);
         all.push(first.0)?;
         'arguments: loop {
             if !r.sees(Punct::Comma) {
@@ -70,14 +68,14 @@ impl<
 
     /// The arguments of a call, if any, and their greatest height.
     pub fn arguments(&self, r: &mut Reader<'_>) -> Result<(Items<Expr>, u32), ParseError>
-        requires nests { NestsExpr self.now.depth (F.pre self.now.expr) (F.post self.now.expr) }
-        ensures value { ReadsExprs (parser.look (reading.arguments_at self.now.names.now self.now.depth (reading.parsers self.now.names.now self.now.depth)) r.old) result r.new }
-        ensures measured { MeasuredExprs self.now.depth result }
+        requires nests { NestsExpr self.now.parts.depth (F.pre self.now.parts.expr) (F.post self.now.parts.expr) }
+        ensures value { ReadsExprs (parser.look (reading.arguments_at self.now.parts.names.now self.now.parts.depth (reading.parsers self.now.parts.names.now self.now.parts.depth)) r.old) result r.new }
+        ensures measured { MeasuredExprs self.now.parts.depth result }
     {
         if r.sees(Punct::RightParenthesis) {
-            return Ok((Items::new(self.alloc), 0));
+            return Ok((Items::new(self.parts.alloc), 0));
         }
-        let first = self.part(r, 1)?;
+        let first = self.parts.part(r, 1)?;
         self.more_arguments(r, first)
     }
 }

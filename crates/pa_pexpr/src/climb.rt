@@ -3,24 +3,21 @@
 ghost use Rattle.std.specs.Prelude.{◌≡◌, ◌≤◌, suc, Ok};
 ghost use Rattle.pa_tree.specs.Heights.{expr_height};
 ghost use Rattle.pa_tree.specs.Views.{expr_tree};
-ghost use Rattle.pa_pexpr.specs.Infixes as spec;
-ghost use Rattle.pa_pexpr.specs.Nests.{NestsExpr, NestsOpened, NestsSpecs, NestsDeclarator, ReadsExpr, Measured};
-ghost use Rattle.pa_pexpr.specs.Reading as reading;
+ghost use Rattle.pa_reading.specs.Infixes as spec;
+ghost use Rattle.pa_reading.specs.Nests.{NestsExpr, NestsOpened, NestsSpecs, NestsDeclarator, ReadsExpr, Measured};
+ghost use Rattle.pa_reading.specs.Reading as reading;
 ghost use Rattle.pa_pexpr.specs.Shown.{infix_shown, next_shown};
 
 use crate::below::Below;
 use crate::infix::{Infix, tree_level};
-use crate::name::plain_name;
-use crate::reader::{Reader, needs};
-use crate::rule::{Naming, ParseError, SynRule};
-use crate::type_names::TypeNames;
 use pa_lex::{Kind, Punct, Token};
+use pa_reading::{Naming, ParseError, Reader, SynRule, TypeNames, needs, plain_name};
 use pa_tree::{BinaryOperator, COND_LEVEL, Declarator, Expr, Specs, Step, UNARY_LEVEL};
 use sqlite_items::Boxed;
 use std::alloc::Global;
 
 /// The operator that goes on behind `left` at this level, with its token, if one does.
-#[tactic(auto, unfolding(crate::specs::Reading::next))]
+#[tactic(auto, unfolding(pa_reading::specs::Reading::next))]
 fn next<'t>(r: &Reader<'t>, left: &Expr, level: u8) -> Option<(Infix, &'t Token)>
     ensures { reading.next level (expr_tree left.now) r.now ≡ Ok (next_shown result, r.now) }
 {
@@ -58,17 +55,17 @@ impl<
         left: (Expr, u32),
         op: BinaryOperator,
     ) -> Result<(Expr, u32), ParseError>
-        requires nests { NestsExpr self.now.depth (F.pre self.now.expr) (F.post self.now.expr) }
-        requires shallow { self.now.depth ≤ 200 }
+        requires nests { NestsExpr self.now.parts.depth (F.pre self.now.parts.expr) (F.post self.now.parts.expr) }
+        requires shallow { self.now.parts.depth ≤ 200 }
         requires left_height { left.1 ≡ expr_height (expr_tree left.0) }
-        requires left_fits { left.1 ≤ self.now.depth }
-        ensures value { ReadsExpr (reading.gone self.now.names.now self.now.depth (reading.parsers self.now.names.now self.now.depth) from (expr_tree left.0) (spec.Between op) r.old) result r.new }
-        ensures measured { Measured (suc self.now.depth) result }
+        requires left_fits { left.1 ≤ self.now.parts.depth }
+        ensures value { ReadsExpr (reading.gone self.now.parts.names.now self.now.parts.depth (reading.parsers self.now.parts.names.now self.now.parts.depth) from (expr_tree left.0) (spec.Between op) r.old) result r.new }
+        ensures measured { Measured (suc self.now.parts.depth) result }
     {
-        let (right, height) = self.part(r, op.right_level())?;
+        let (right, height) = self.parts.part(r, op.right_level())?;
         let height = left.1.max(height) + 1;
-        let left = Boxed::new(self.alloc, left.0)?;
-        let right = Boxed::new(self.alloc, right)?;
+        let left = Boxed::new(self.parts.alloc, left.0)?;
+        let right = Boxed::new(self.parts.alloc, right)?;
         Ok((
             Expr::Binary {
                 op,
@@ -89,20 +86,20 @@ impl<
         from: u32,
         test: (Expr, u32),
     ) -> Result<(Expr, u32), ParseError>
-        requires nests { NestsExpr self.now.depth (F.pre self.now.expr) (F.post self.now.expr) }
-        requires shallow { self.now.depth ≤ 200 }
+        requires nests { NestsExpr self.now.parts.depth (F.pre self.now.parts.expr) (F.post self.now.parts.expr) }
+        requires shallow { self.now.parts.depth ≤ 200 }
         requires test_height { test.1 ≡ expr_height (expr_tree test.0) }
-        requires test_fits { test.1 ≤ self.now.depth }
-        ensures value { ReadsExpr (reading.gone self.now.names.now self.now.depth (reading.parsers self.now.names.now self.now.depth) from (expr_tree test.0) spec.Choice r.old) result r.new }
-        ensures measured { Measured (suc self.now.depth) result }
+        requires test_fits { test.1 ≤ self.now.parts.depth }
+        ensures value { ReadsExpr (reading.gone self.now.parts.names.now self.now.parts.depth (reading.parsers self.now.parts.names.now self.now.parts.depth) from (expr_tree test.0) spec.Choice r.old) result r.new }
+        ensures measured { Measured (suc self.now.parts.depth) result }
     {
         let (test, test_height) = test;
-        let test = Boxed::new(self.alloc, test)?;
-        let (when_true, true_height) = self.part(r, 0)?;
-        let when_true = Boxed::new(self.alloc, when_true)?;
+        let test = Boxed::new(self.parts.alloc, test)?;
+        let (when_true, true_height) = self.parts.part(r, 0)?;
+        let when_true = Boxed::new(self.parts.alloc, when_true)?;
         r.expect(Punct::Colon)?;
-        let (when_false, false_height) = self.part(r, COND_LEVEL)?;
-        let when_false = Boxed::new(self.alloc, when_false)?;
+        let (when_false, false_height) = self.parts.part(r, COND_LEVEL)?;
+        let when_false = Boxed::new(self.parts.alloc, when_false)?;
         let height = test_height.max(true_height.max(false_height)) + 1;
         Ok((
             Expr::Conditional {
@@ -124,18 +121,18 @@ impl<
         from: u32,
         of: (Expr, u32),
     ) -> Result<(Expr, u32), ParseError>
-        requires nests { NestsExpr self.now.depth (F.pre self.now.expr) (F.post self.now.expr) }
-        requires shallow { self.now.depth ≤ 200 }
+        requires nests { NestsExpr self.now.parts.depth (F.pre self.now.parts.expr) (F.post self.now.parts.expr) }
+        requires shallow { self.now.parts.depth ≤ 200 }
         requires of_height { of.1 ≡ expr_height (expr_tree of.0) }
-        requires of_fits { of.1 ≤ self.now.depth }
-        ensures value { ReadsExpr (reading.gone self.now.names.now self.now.depth (reading.parsers self.now.names.now self.now.depth) from (expr_tree of.0) spec.Indexed r.old) result r.new }
-        ensures measured { Measured (suc self.now.depth) result }
+        requires of_fits { of.1 ≤ self.now.parts.depth }
+        ensures value { ReadsExpr (reading.gone self.now.parts.names.now self.now.parts.depth (reading.parsers self.now.parts.names.now self.now.parts.depth) from (expr_tree of.0) spec.Indexed r.old) result r.new }
+        ensures measured { Measured (suc self.now.parts.depth) result }
     {
-        let (at, at_height) = self.part(r, 0)?;
+        let (at, at_height) = self.parts.part(r, 0)?;
         r.expect(Punct::RightBracket)?;
         let height = of.1.max(at_height) + 1;
-        let of = Boxed::new(self.alloc, of.0)?;
-        let at = Boxed::new(self.alloc, at)?;
+        let of = Boxed::new(self.parts.alloc, of.0)?;
+        let at = Boxed::new(self.parts.alloc, at)?;
         Ok((
             Expr::Index {
                 of,
@@ -155,15 +152,15 @@ impl<
         from: u32,
         of: (Expr, u32),
     ) -> Result<(Expr, u32), ParseError>
-        requires shallow { self.now.depth ≤ 200 }
+        requires shallow { self.now.parts.depth ≤ 200 }
         requires of_height { of.1 ≡ expr_height (expr_tree of.0) }
-        requires of_fits { of.1 ≤ self.now.depth }
-        ensures value { ReadsExpr (reading.gone self.now.names.now self.now.depth (reading.parsers self.now.names.now self.now.depth) from (expr_tree of.0) spec.Dotted r.old) result r.new }
-        ensures measured { Measured (suc self.now.depth) result }
+        requires of_fits { of.1 ≤ self.now.parts.depth }
+        ensures value { ReadsExpr (reading.gone self.now.parts.names.now self.now.parts.depth (reading.parsers self.now.parts.names.now self.now.parts.depth) from (expr_tree of.0) spec.Dotted r.old) result r.new }
+        ensures measured { Measured (suc self.now.parts.depth) result }
     {
-        let member = plain_name(self.alloc, self.names, r)?.name;
+        let member = plain_name(self.parts.alloc, self.parts.names, r)?.name;
         let height = of.1 + 1;
-        let of = Boxed::new(self.alloc, of.0)?;
+        let of = Boxed::new(self.parts.alloc, of.0)?;
         Ok((
             Expr::Dot {
                 of,
@@ -183,15 +180,15 @@ impl<
         from: u32,
         of: (Expr, u32),
     ) -> Result<(Expr, u32), ParseError>
-        requires shallow { self.now.depth ≤ 200 }
+        requires shallow { self.now.parts.depth ≤ 200 }
         requires of_height { of.1 ≡ expr_height (expr_tree of.0) }
-        requires of_fits { of.1 ≤ self.now.depth }
-        ensures value { ReadsExpr (reading.gone self.now.names.now self.now.depth (reading.parsers self.now.names.now self.now.depth) from (expr_tree of.0) spec.Arrowed r.old) result r.new }
-        ensures measured { Measured (suc self.now.depth) result }
+        requires of_fits { of.1 ≤ self.now.parts.depth }
+        ensures value { ReadsExpr (reading.gone self.now.parts.names.now self.now.parts.depth (reading.parsers self.now.parts.names.now self.now.parts.depth) from (expr_tree of.0) spec.Arrowed r.old) result r.new }
+        ensures measured { Measured (suc self.now.parts.depth) result }
     {
-        let member = plain_name(self.alloc, self.names, r)?.name;
+        let member = plain_name(self.parts.alloc, self.parts.names, r)?.name;
         let height = of.1 + 1;
-        let of = Boxed::new(self.alloc, of.0)?;
+        let of = Boxed::new(self.parts.alloc, of.0)?;
         Ok((
             Expr::Arrow {
                 of,
@@ -212,14 +209,14 @@ impl<
         of: (Expr, u32),
         op: Step,
     ) -> Result<(Expr, u32), ParseError>
-        requires shallow { self.now.depth ≤ 200 }
+        requires shallow { self.now.parts.depth ≤ 200 }
         requires of_height { of.1 ≡ expr_height (expr_tree of.0) }
-        requires of_fits { of.1 ≤ self.now.depth }
-        ensures value { ReadsExpr (reading.gone self.now.names.now self.now.depth (reading.parsers self.now.names.now self.now.depth) from (expr_tree of.0) (spec.Stepped op) r.old) result r.new }
-        ensures measured { Measured (suc self.now.depth) result }
+        requires of_fits { of.1 ≤ self.now.parts.depth }
+        ensures value { ReadsExpr (reading.gone self.now.parts.names.now self.now.parts.depth (reading.parsers self.now.parts.names.now self.now.parts.depth) from (expr_tree of.0) (spec.Stepped op) r.old) result r.new }
+        ensures measured { Measured (suc self.now.parts.depth) result }
     {
         let height = of.1 + 1;
-        let of = Boxed::new(self.alloc, of.0)?;
+        let of = Boxed::new(self.parts.alloc, of.0)?;
         Ok((
             Expr::Postfix {
                 op,
@@ -239,17 +236,17 @@ impl<
         from: u32,
         of: (Expr, u32),
     ) -> Result<(Expr, u32), ParseError>
-        requires nests { NestsExpr self.now.depth (F.pre self.now.expr) (F.post self.now.expr) }
-        requires shallow { self.now.depth ≤ 200 }
+        requires nests { NestsExpr self.now.parts.depth (F.pre self.now.parts.expr) (F.post self.now.parts.expr) }
+        requires shallow { self.now.parts.depth ≤ 200 }
         requires of_height { of.1 ≡ expr_height (expr_tree of.0) }
-        requires of_fits { of.1 ≤ self.now.depth }
-        ensures value { ReadsExpr (reading.gone self.now.names.now self.now.depth (reading.parsers self.now.names.now self.now.depth) from (expr_tree of.0) spec.Called r.old) result r.new }
-        ensures measured { Measured (suc self.now.depth) result }
+        requires of_fits { of.1 ≤ self.now.parts.depth }
+        ensures value { ReadsExpr (reading.gone self.now.parts.names.now self.now.parts.depth (reading.parsers self.now.parts.names.now self.now.parts.depth) from (expr_tree of.0) spec.Called r.old) result r.new }
+        ensures measured { Measured (suc self.now.parts.depth) result }
     {
         let (arguments, arguments_height) = self.arguments(r)?;
         r.expect(Punct::RightParenthesis)?;
         let height = of.1.max(arguments_height) + 1;
-        let of = Boxed::new(self.alloc, of.0)?;
+        let of = Boxed::new(self.parts.alloc, of.0)?;
         Ok((
             Expr::Call {
                 of,
@@ -270,13 +267,13 @@ impl<
         op: Infix,
         t: &Token,
     ) -> Result<(Expr, u32), ParseError>
-        requires nests { NestsExpr self.now.depth (F.pre self.now.expr) (F.post self.now.expr) }
-        requires shallow { self.now.depth ≤ 200 }
+        requires nests { NestsExpr self.now.parts.depth (F.pre self.now.parts.expr) (F.post self.now.parts.expr) }
+        requires shallow { self.now.parts.depth ≤ 200 }
         requires left_height { left.1 ≡ expr_height (expr_tree left.0) }
-        ensures value { ReadsExpr (reading.going self.now.names.now self.now.depth (reading.parsers self.now.names.now self.now.depth) from (expr_tree left.0) (infix_shown op) t.now r.old) result r.new }
-        ensures measured { Measured (suc self.now.depth) result }
+        ensures value { ReadsExpr (reading.going self.now.parts.names.now self.now.parts.depth (reading.parsers self.now.parts.names.now self.now.parts.depth) from (expr_tree left.0) (infix_shown op) t.now r.old) result r.new }
+        ensures measured { Measured (suc self.now.parts.depth) result }
     {
-        needs(left.1, self.depth)?;
+        needs(left.1, self.parts.depth)?;
         r.take(t);
         match op {
             Infix::Between(op) => self.between(r, from, left, op),
@@ -298,15 +295,15 @@ impl<
         level: u8,
         first: (Expr, u32),
     ) -> Result<(Expr, u32), ParseError>
-        requires nests { NestsExpr self.now.depth (F.pre self.now.expr) (F.post self.now.expr) }
-        requires shallow { self.now.depth ≤ 200 }
+        requires nests { NestsExpr self.now.parts.depth (F.pre self.now.parts.expr) (F.post self.now.parts.expr) }
+        requires shallow { self.now.parts.depth ≤ 200 }
         requires first_height { first.1 ≡ expr_height (expr_tree first.0) }
-        requires first_fits { first.1 ≤ suc self.now.depth }
-        ensures value { ReadsExpr (reading.climb self.now.names.now self.now.depth (reading.parsers self.now.names.now self.now.depth) from level (suc self.now.depth) (expr_tree first.0) r.old) result r.new }
-        ensures measured { Measured (suc self.now.depth) result }
+        requires first_fits { first.1 ≤ suc self.now.parts.depth }
+        ensures value { ReadsExpr (reading.climb self.now.parts.names.now self.now.parts.depth (reading.parsers self.now.parts.names.now self.now.parts.depth) from level (suc self.now.parts.depth) (expr_tree first.0) r.old) result r.new }
+        ensures measured { Measured (suc self.now.parts.depth) result }
     {
         let mut left = first;
-        for _turn in 0..self.depth + 1 {
+        for _turn in 0..self.parts.depth + 1 {
             let Some((op, t)) = next(r, &left.0, level) else {
                 return Ok(left);
             };
@@ -319,15 +316,15 @@ impl<
     }
 
     /// An expression of this level.
-    #[tactic(auto, unfolding(crate::specs::Reading::expr_level))]
+    #[tactic(auto, unfolding(pa_reading::specs::Reading::expr_level))]
     pub fn expr_level(&self, r: &mut Reader<'_>, level: u8) -> Result<(Expr, u32), ParseError>
-        requires nests { NestsExpr self.now.depth (F.pre self.now.expr) (F.post self.now.expr) }
-        requires opened { NestsOpened self.now.depth (G.pre self.now.opened) (G.post self.now.opened) }
-        requires specs { NestsSpecs self.now.depth (H.pre self.now.specs) (H.post self.now.specs) }
-        requires declarator { NestsDeclarator self.now.depth (I.pre self.now.declarator) (I.post self.now.declarator) }
-        requires shallow { self.now.depth ≤ 200 }
-        ensures value { ReadsExpr (reading.expr_level self.now.names.now self.now.depth (reading.parsers self.now.names.now self.now.depth) level r.old) result r.new }
-        ensures measured { Measured (suc self.now.depth) result }
+        requires nests { NestsExpr self.now.parts.depth (F.pre self.now.parts.expr) (F.post self.now.parts.expr) }
+        requires opened { NestsOpened self.now.parts.depth (G.pre self.now.opened) (G.post self.now.opened) }
+        requires specs { NestsSpecs self.now.parts.depth (H.pre self.now.parts.specs) (H.post self.now.parts.specs) }
+        requires declarator { NestsDeclarator self.now.parts.depth (I.pre self.now.parts.declarator) (I.post self.now.parts.declarator) }
+        requires shallow { self.now.parts.depth ≤ 200 }
+        ensures value { ReadsExpr (reading.expr_level self.now.parts.names.now self.now.parts.depth (reading.parsers self.now.parts.names.now self.now.parts.depth) level r.old) result r.new }
+        ensures measured { Measured (suc self.now.parts.depth) result }
     {
         let from = r.begin();
         let first = self.operand(r, level)?;
@@ -335,12 +332,12 @@ impl<
     }
 
     /// Behind the `(` of a unary expression at `from`, where no type name follows.
-    #[tactic(auto, unfolding(crate::specs::Reading::opened_level))]
+    #[tactic(auto, unfolding(pa_reading::specs::Reading::opened_level))]
     pub fn opened_level(&self, r: &mut Reader<'_>, from: u32) -> Result<(Expr, u32), ParseError>
-        requires nests { NestsExpr self.now.depth (F.pre self.now.expr) (F.post self.now.expr) }
-        requires shallow { self.now.depth ≤ 200 }
-        ensures value { ReadsExpr (reading.opened_level self.now.names.now self.now.depth (reading.parsers self.now.names.now self.now.depth) from r.old) result r.new }
-        ensures measured { Measured (suc self.now.depth) result }
+        requires nests { NestsExpr self.now.parts.depth (F.pre self.now.parts.expr) (F.post self.now.parts.expr) }
+        requires shallow { self.now.parts.depth ≤ 200 }
+        ensures value { ReadsExpr (reading.opened_level self.now.parts.names.now self.now.parts.depth (reading.parsers self.now.parts.names.now self.now.parts.depth) from r.old) result r.new }
+        ensures measured { Measured (suc self.now.parts.depth) result }
     {
         let first = self.paren(r, from)?;
         self.climb(r, from, UNARY_LEVEL, first)

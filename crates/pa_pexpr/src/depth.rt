@@ -1,21 +1,32 @@
 //! The readers of trees to a depth.
 
 ghost use Rattle.std.specs.Prelude.{◌≡◌, ◌≤◌};
-ghost use Rattle.pa_pexpr.specs.Nests.{ReadsExpr, Measured, ReadsSpecs, MeasuredSpecs, ReadsDeclarator, MeasuredDeclarator};
-ghost use Rattle.pa_pexpr.specs.Reading as reading;
+ghost use Rattle.pa_reading.specs.Nests.{ReadsExpr, Measured, ReadsSpecs, MeasuredSpecs, ReadsDeclarator, MeasuredDeclarator};
+ghost use Rattle.pa_reading.specs.Reading as reading;
 
-use crate::begins::no_expr;
 use crate::below::Below;
-use crate::declarators::bare_declarator;
-use crate::reader::Reader;
-use crate::rule::{Naming, ParseError};
-use crate::type_names::TypeNames;
+use pa_pspec::{Parts, bare_declarator};
+use pa_reading::{Naming, ParseError, Reader, TypeNames, no_expr};
 use pa_tree::{Declarator, Expr, Specs};
 use std::alloc::Global;
 
+/// The readers of this file, for the parts at a depth.
+macro_rules! parts {
+    ($alloc:expr, $names:expr, $depth:expr) => {
+        Parts {
+            alloc: $alloc,
+            names: $names,
+            depth: $depth,
+            expr: read_expr,
+            specs: read_specs,
+            declarator: read_declarator,
+        }
+    };
+}
+
 /// Reads an expression of this level (a nonterminal of C11 6.5 by its number) that is no deeper than `depth`, and gives its height.
 #[cycle(depth)]
-#[tactic(auto, unfolding(crate::specs::Reading::parsers))]
+#[tactic(auto, unfolding(pa_reading::specs::Reading::parsers))]
 pub fn read_expr(
     alloc: Global,
     names: &TypeNames,
@@ -31,20 +42,15 @@ pub fn read_expr(
         return Err(ParseError::Broken(no_expr(names, r)));
     }
     let below = Below {
-        alloc,
-        names,
-        depth: depth - 1,
-        expr: read_expr,
+        parts: parts!(alloc, names, depth - 1),
         opened: read_opened,
-        specs: read_specs,
-        declarator: read_declarator,
     };
     below.expr_level(r, level)
 }
 
 /// Reads on behind the `(` of a unary expression, which stands at `from` and is followed by no type name.
 #[cycle(depth)]
-#[tactic(auto, unfolding(crate::specs::Reading::parsers))]
+#[tactic(auto, unfolding(pa_reading::specs::Reading::parsers))]
 fn read_opened(
     alloc: Global,
     names: &TypeNames,
@@ -60,13 +66,8 @@ fn read_opened(
         return Err(ParseError::Broken(no_expr(names, r)));
     }
     let below = Below {
-        alloc,
-        names,
-        depth: depth - 1,
-        expr: read_expr,
+        parts: parts!(alloc, names, depth - 1),
         opened: read_opened,
-        specs: read_specs,
-        declarator: read_declarator,
     };
     below.opened_level(r, from)
 }
@@ -74,7 +75,7 @@ fn read_opened(
 /// Reads specifiers that are no deeper than `depth`, where `bodies` says whether the body of a struct or an enumeration may stand, and
 /// gives their height.
 #[cycle(depth)]
-#[tactic(auto, unfolding(crate::specs::Reading::parsers))]
+#[tactic(auto, unfolding(pa_reading::specs::Reading::parsers))]
 pub fn read_specs(
     alloc: Global,
     names: &TypeNames,
@@ -86,21 +87,12 @@ pub fn read_specs(
     ensures value { ReadsSpecs ((reading.parsers names.now depth).specs bodies r.old) result r.new }
     ensures measured { MeasuredSpecs depth result }
 {
-    let here = Below {
-        alloc,
-        names,
-        depth,
-        expr: read_expr,
-        opened: read_opened,
-        specs: read_specs,
-        declarator: read_declarator,
-    };
-    here.specs_level(r, bodies)
+    parts!(alloc, names, depth).specs_level(r, bodies)
 }
 
 /// Reads a declarator that is no deeper than `depth`, and gives its height.
 #[cycle(depth)]
-#[tactic(auto, unfolding(crate::specs::Reading::parsers))]
+#[tactic(auto, unfolding(pa_reading::specs::Reading::parsers))]
 pub fn read_declarator(
     alloc: Global,
     names: &TypeNames,
@@ -115,14 +107,5 @@ pub fn read_declarator(
     if depth == 0 {
         return bare_declarator(names, r, name);
     }
-    let below = Below {
-        alloc,
-        names,
-        depth: depth - 1,
-        expr: read_expr,
-        opened: read_opened,
-        specs: read_specs,
-        declarator: read_declarator,
-    };
-    below.declarator_level(r, name)
+    parts!(alloc, names, depth - 1).declarator_level(r, name)
 }

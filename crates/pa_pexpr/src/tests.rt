@@ -1,9 +1,9 @@
 //! Cases by hand: each alternative of expressions, how they group, casts against parentheses, depths, and places.
 ghost use Rattle.std.specs.Prelude.{◌≤◌, length};
 
-use crate::{
-    Infix, Level, ParseError, Reader, SynRule, TypeNames, begins_type, expr, needs, texts,
-};
+use crate::infix::Infix;
+use crate::piece::texts;
+use crate::{Level, Reader, SynRule, TypeNames, begins_type, expr};
 use pa_lex::{Punct, lex};
 use pa_num::{Fault, Name};
 use pa_tree::Expr;
@@ -11,16 +11,12 @@ use std::alloc::{AllocError, Global};
 use std::fmt::Write;
 use std::test::Fail;
 
-/// `( "ab" "c" int`: a mark, two literals side by side, and a type.
+/// `"ab" "c" int`: two literals side by side.
 #[test]
-fn reads_from_the_left(rt: HostRuntime) {
-    match lex(rt.alloc(), b"( \"ab\" \"c\" int") {
+fn joins_literals(rt: HostRuntime) {
+    match lex(rt.alloc(), b"\"ab\" \"c\" int") {
         Ok(tokens) => {
             let mut r = Reader::new(tokens.as_slice());
-            assert!(rt; r.sees(Punct::LeftParenthesis));
-            assert!(rt; r.expect(Punct::RightParenthesis).is_err());
-            assert!(rt; r.expect(Punct::LeftParenthesis).is_ok());
-            assert_eq!(rt; r.ended(), 1);
             match texts(rt.alloc(), b"x", &mut r) {
                 Ok(bytes) => assert!(rt; bytes.as_slice() == b"xabc".as_slice()),
                 Err(_) => assert!(rt; false),
@@ -32,13 +28,7 @@ fn reads_from_the_left(rt: HostRuntime) {
 }
 
 #[test]
-fn tells_names_and_depths(rt: HostRuntime) {
-    match Name::from_slice(rt.alloc(), b"T") {
-        Ok(name) => assert!(rt; !TypeNames::new(rt.alloc(), &[]).contains(&name)),
-        Err(_) => assert!(rt; false),
-    }
-    assert_eq!(rt; needs(200, 200), Ok(()));
-    assert_eq!(rt; needs(201, 200), Err(ParseError::Broken(SynRule::S2)));
+fn tells_operators(rt: HostRuntime) {
     assert_eq!(rt; Infix::from_punct(Punct::Question), Some(Infix::Choice));
     assert_eq!(rt; Infix::from_punct(Punct::Semicolon), None);
 }
