@@ -10,13 +10,13 @@ use Rattle.pa_lex.specs.declared.token.Punct.TheVariants as p
 use Rattle.pa_tree.specs.declared.expr.Tag.{Tag}
 use Rattle.pa_tree.specs.declared.operator.IntegerWord.{IntegerWord}
 use Rattle.pa_tree.specs.Cursors.{Cursor, head, from_of}
-use Rattle.pa_tree.specs.Exprs.{ExprTree, BaseTree, QualifierTree, EnumeratorTree, SpecsTree, OfSpecs}
+use Rattle.pa_tree.specs.Exprs.{ExprTree, BaseTree, QualifierTree, EnumeratorTree, SpecsTree, OfSpecs, StructTag, EnumTag}
 use Rattle.pa_tree.specs.Operators.{word_in}
 use Rattle.pa_tree.specs.Views.{qualifiers_of}
 use Rattle.pa_reading.specs.declared.rule.SynRule.TheVariants.{S2}
 use Rattle.pa_reading.specs.Parser.{Parser, Outcome, Stop, and_then, ◌>>=◌, ◌>>◌, pure, refuse, look, after, ended, needs, sees, Next, Done, More, goes, loop, iterate, item_step, many}
 use Rattle.pa_reading.specs.Reading as reading
-use Rattle.pa_reading.specs.Reading.{Parsers, parsers, no_parsers, begins_qualifier, not_brace, conds, qualifier, qualifiers, member, enumerator, enumerator_step, base, specs_level}
+use Rattle.pa_reading.specs.Reading.{Parsers, parsers, no_parsers, begins_qualifier, not_brace, conds, qualifier, qualifiers, member, enumerator, enumerator_step, base, specs_level, expr_level, opened_level}
 use Rattle.pa_reading.specs.Tokens.{is_word}
 
 -- both give the same everywhere
@@ -129,8 +129,8 @@ module _ (names : List (List ℕ)) (d : ℕ) (h₁ b₁ h₂ b₂ : Parsers) whe
     same_word : (bodies : Bool) (t : Token) (x : Keyword) → Same (reading.base_word names d h₁ b₁ bodies t x) (reading.base_word names d h₂ b₂ bodies t x)
     same_word bodies t w.Void = itself
     same_word bodies t w.Bool = itself
-    same_word bodies t w.Struct = same_then itself (same_look (same_struct_at bodies _ _ _ (same_struct t.from)))
-    same_word bodies t w.Enum = same_then itself (same_look (same_struct_at bodies _ _ _ (same_enum t.from)))
+    same_word bodies t w.Struct = same_then {A = Unit {0}} {q = after t} {r = after t} itself (same_look (same_struct_at bodies (reading.struct_body names d h₁ b₁ t.from) (reading.struct_body names d h₂ b₂ t.from) (λ tag z. StructTag tag t.from z) (same_struct t.from)))
+    same_word bodies t w.Enum = same_then {A = Unit {0}} {q = after t} {r = after t} itself (same_look (same_struct_at bodies (reading.enum_body names d h₁ b₁ t.from) (reading.enum_body names d h₂ b₂ t.from) (λ tag z. EnumTag tag t.from z) (same_enum t.from)))
     same_word bodies t x = same_words t (word_in x)
 
     same_base_by : (bodies : Bool) (t : Token) (k : Kind) → Same (reading.base_by names d h₁ b₁ bodies t k) (reading.base_by names d h₂ b₂ bodies t k)
@@ -147,20 +147,23 @@ module _ (names : List (List ℕ)) (d : ℕ) (h₁ b₁ h₂ b₂ : Parsers) whe
     same_base bodies = same_look (same_base_at bodies)
 
 module _ (names : List (List ℕ)) (d : ℕ) (bodies : Bool) where
+  abbrev whole_behind : Option Token → List QualifierTree → BaseTree → List QualifierTree → Parser SpecsTree
+  whole_behind h b x a = ended >>= (λ z. pure (OfSpecs (qualifiers_of b) x (qualifiers_of a) (from_of h) z))
+
   abbrev whole_from : Option Token → Parser SpecsTree
-  whole_from h = qualifiers names d (parsers names d) (parsers names d) >>= (λ b. base names d (parsers names d) (parsers names (d - 1)) bodies >>= (λ x. qualifiers names d (parsers names d) (parsers names d) >>= (λ a. ended >>= (λ z. pure (OfSpecs (qualifiers_of b) x (qualifiers_of a) (from_of h) z)))))
+  whole_from h = qualifiers names d (parsers names d) (parsers names d) >>= (λ b. base names d (parsers names d) (parsers names (d - 1)) bodies >>= (λ x. qualifiers names d (parsers names d) (parsers names d) >>= whole_behind h b x))
 
   abbrev pub whole : Parser SpecsTree
   whole = look whole_from
 
   same_specs : (here below : Parsers) → (1 ≤ d → (level : ℕ) → Same (here.expr level) ((parsers names d).expr level)) → (2 ≤ d → below ≡ parsers names (d - 1)) → Same (specs_level names d here below bodies) whole
   unfolding specs_level
-  same_specs here below e k = same_look (λ h. same_bind (same_qualifiers names d here below (parsers names d) (parsers names d) e) (λ b. same_bind (same_base names d here below (parsers names d) (parsers names (d - 1)) k bodies) (λ x. same_bind (same_qualifiers names d here below (parsers names d) (parsers names d) e) (λ a. itself))))
+  same_specs here below e k = same_look (λ h. same_bind (same_qualifiers names d here below (parsers names d) (parsers names d) e) (λ b. same_bind (same_base names d here below (parsers names d) (parsers names (d - 1)) k bodies) (λ x. same_bind {f = whole_behind h b x} {g = whole_behind h b x} (same_qualifiers names d here below (parsers names d) (parsers names d) e) (λ a. itself))))
 
 pub specs_whole : (names : List (List ℕ)) (d : ℕ) (bodies : Bool) (c : Cursor) → (parsers names d).specs bodies c ≡ whole names d bodies c
 unfolding parsers
 specs_whole names zero bodies c = (same_specs names 0 bodies (no_parsers names) (no_parsers names) (λ k. absurd (omega arith)) (λ k. absurd (omega arith))).holds c
-specs_whole names (suc n) bodies c = (same_specs names (suc n) bodies _ (parsers names n) (λ _ level. itself) (λ _. ap (parsers names) (omega arith))).holds c
+specs_whole names (suc n) bodies c = (same_specs names (suc n) bodies (record { expr = expr_level names n (parsers names n); opened = opened_level names n (parsers names n); specs = λ bodies. refuse S2; declarator = λ name. refuse S2 }) (parsers names n) (λ _ level. itself) (λ _. ap (parsers names) (omega arith))).holds c
 
 module _ (names : List (List ℕ)) (d : ℕ) (bodies : Bool) (c : Cursor) where
   pub specs_read : (b a : List QualifierTree) (x : BaseTree) (m n e : Cursor) → qualifiers names d (parsers names d) (parsers names d) c ≡ Ok (b, m) → base names d (parsers names d) (parsers names (d - 1)) bodies m ≡ Ok (x, n)
