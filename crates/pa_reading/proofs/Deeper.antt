@@ -1,5 +1,5 @@
 -- More depth changes no answer, and of the refusals only those by depth.
-use Rattle.std.proofs.Common.{◌≡◌, ◌≢◌, ◌≤◌, ℕ, zero, suc, List, [], ◌∷◌, Option, Some, None, Ok, Err, Bool, true, false, cond, refl, nat_le, length, arith, ◌||◌, ◌&&◌, not}
+use Rattle.std.proofs.Common.{◌≡◌, ◌≢◌, ◌≤◌, ◌-◌, ◌+◌, ℕ, zero, suc, List, [], ◌∷◌, Option, Some, None, Ok, Err, Bool, true, false, cond, refl, nat_le, length, arith, subst, ◌||◌, ◌&&◌, not}
 use Rattle.std.proofs.lemmas.Bool.{leb-true, le-leb}
 use Rattle.pa_lex.specs.declared.token.Kind.{Kind}
 use Rattle.pa_lex.specs.declared.token.Kind.TheVariants as kind
@@ -23,7 +23,7 @@ use Rattle.pa_tree.specs.Exprs.{Absent, Named, StructTag, EnumTag, ExprTree, Dec
 use Rattle.pa_tree.specs.Heights.{expr_height, declarator_height}
 use Rattle.pa_reading.specs.Tokens.{is_mark, is_word, same_mark, same_word}
 use Rattle.pa_reading.specs.Infixes.{Infix, Between, Choice, Indexed, Called, Dotted, Arrowed, Stepped}
-use Rattle.pa_reading.specs.Parser.{Parser, Outcome, and_then, ◌>>=◌, ◌>>◌, pure, refuse, look, after, ended, needs, mark, sees, Next, Done, More, goes, loop, iterate, item_at, item_step, many, commas}
+use Rattle.pa_reading.specs.Parser.{Parser, Outcome, Stop, and_then, ◌>>=◌, ◌>>◌, pure, refuse, look, after, ended, needs, mark, sees, Next, Done, More, goes, loop, iterate, item_at, item_step, many, commas}
 use Rattle.pa_reading.specs.Reading as reading
 use Rattle.pa_reading.specs.Reading.{Parsers, is_some, begins_qualifier, not_brace, type_name, conds, gone, turn, last, climb, operand, operand_by, operand_at, expr_level, opened_level, no_room, no_expr, plain_name, begins_expr_by, qualifier, qualifiers, member, enumerator, enumerator_step, base, base_by, base_word, words_at, base_at, specs_level, tagged_at, struct_at, parameter, suffix, suffixes, suffixed, declarator_level, bare_declarator, no_parsers, parsers}
 
@@ -470,3 +470,12 @@ module _ (names : List (List ℕ)) where
     specs = specs_level-deeper (suc d) _ _ (parsers names d) (parsers names (suc d)) (expr_level-deeper d (parsers names d) (parsers names (suc d)) (parsers-deeper d)) (parsers-deeper d);
     declarator = declarator_level-deeper d (parsers names d) (parsers names (suc d)) (parsers-deeper d);
   }
+
+-- A reader that more depth keeps, level by level, is kept by any depth that is no less: where it stops for S1, it stops so there.
+module _ {A : Type 0} (p : ℕ → Parser A) (next : (d : ℕ) → Deeper (p d) (p (suc d))) where
+  much_deeper : (n d e : ℕ) → e ≡ n + d → Deeper (p d) (p e)
+  much_deeper zero d e h = let same : d ≡ e = omega arith in subst (λ k. Deeper (p d) (p k)) same deeper_same
+  much_deeper (suc n) d e h = deeper_trans (next d) (much_deeper n (suc d) e (omega arith))
+
+  pub stops_deeper : (d e : ℕ) (c : Cursor) (s : Stop) → d ≤ e → s.rule ≢ Broken S2 → p d c ≡ Err s → p e c ≡ Err s
+  stops_deeper d e c s l n q = (rw q at ((much_deeper (e - d) d e (omega arith)).holds c)) n

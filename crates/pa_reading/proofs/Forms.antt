@@ -17,7 +17,8 @@ use Rattle.pa_reading.proofs.Sound.{Fits}
 use Rattle.pa_reading.proofs.SoundSpecs.{sound}
 use Rattle.pa_reading.proofs.CompleteDeclarators.{complete}
 use Rattle.pa_reading.proofs.Frame.{on_expr, on_specs, on_declarator}
-use Rattle.pa_reading.proofs.Runs.{Reader}
+use Rattle.pa_reading.proofs.Runs.{Reader, Readers}
+use Rattle.pa_reading.proofs.Deeper.{parsers-deeper, stops_deeper}
 
 pub level_small : (level : Level) → level_number level ≤ 14
 level_small l.Expr = omega arith
@@ -61,4 +62,24 @@ module _ (names : List (List ℕ)) (d : ℕ) where
     sound = λ c. meets_weaken ((sound names d).declarator (naming_of named) c) (λ x e (f, s, l). ((named_of named (has_name x) f, s), l));
     complete = λ x c z (f, s) l. (complete names d).declarator x (naming_of named) c (record { ended = z; ahead = [] }) (fits_of named (has_name x) f) s l refl;
     frame = λ y x c e (f, s). (f, on_declarator y names x 0 c e s);
+  }
+
+-- the same for each depth
+module _ (names : List (List ℕ)) where
+  pub expr_readers : (level : ℕ) → level ≤ 14 → Readers (ExprSpells names level) expr_height (λ d. (parsers names d).expr level)
+  expr_readers level h = record {
+    of = λ d. expr_reader names d level h;
+    stops = stops_deeper (λ d. (parsers names d).expr level) (λ d. (parsers-deeper names d).expr level);
+  }
+
+  pub specs_readers : (bodies : Bool) → Readers (SpecsSpell names bodies) specs_height (λ d. (parsers names d).specs bodies)
+  specs_readers bodies = record {
+    of = λ d. specs_reader names d bodies;
+    stops = stops_deeper (λ d. (parsers names d).specs bodies) (λ d. (parsers-deeper names d).specs bodies);
+  }
+
+  pub declarator_readers : (named : Bool) → Readers (DeclaratorOf names named) declarator_height (λ d. (parsers names d).declarator (naming_of named))
+  declarator_readers named = record {
+    of = λ d. declarator_reader names d named;
+    stops = stops_deeper (λ d. (parsers names d).declarator (naming_of named)) (λ d. (parsers-deeper names d).declarator (naming_of named));
   }

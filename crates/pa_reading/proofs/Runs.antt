@@ -1,14 +1,18 @@
 -- From what is read at a place to what is answered there.
-use Rattle.std.proofs.Common.{◌≡◌, ◌≤◌, ◌<◌, ◌-◌, ◌+◌, ℕ, zero, suc, List, [], ◌∷◌, ◌++◌, length, take, drop, Option, Some, None, Result, Ok, Err, refl, sym, ◌∙◌, ap, subst, arith, append_assoc}
+use Rattle.std.proofs.Common.{◌≡◌, ◌≢◌, ◌≤◌, ◌<◌, ◌-◌, ◌+◌, ℕ, zero, suc, max, List, [], ◌∷◌, ◌++◌, length, take, drop, Option, Some, None, Result, Ok, Err, refl, sym, ◌∙◌, ap, subst, arith, append_assoc}
 use Rattle.std.specs.Prelude.{slice_get}
 use Rattle.std.proofs.lemmas.List.{take-append-drop, drop-append-le, length-append, length-take, length-drop}
+use Rattle.std.proofs.Math.Nat.{le-max_left, le-max_right}
 use Rattle.std.proofs.Math.Seq.{drop-append_seam}
 use Rattle.pa_lex.specs.declared.token.Token.{Token}
 use Rattle.pa_tree.specs.Cursors.{Cursor, head}
 use Rattle.pa_num.specs.declared.fault.Fault.{Fault}
 use Rattle.pa_num.specs.declared.fault.Fault.TheVariants.{Refused}
 use Rattle.pa_reading.specs.declared.rule.SynRule.{SynRule}
-use Rattle.pa_reading.specs.Answers.{to_of, ended_at, cursor_at, place_at, NoneGoesOn, IsLongest, IsRefused, IsAnswer}
+use Rattle.pa_reading.specs.declared.rule.SynRule.TheVariants.{S1, S2}
+use Rattle.pa_reading.specs.declared.rule.ParseError.{ParseError}
+use Rattle.pa_reading.specs.declared.rule.ParseError.TheVariants.{Broken}
+use Rattle.pa_reading.specs.Answers.{to_of, ended_at, cursor_at, place_at, NoneGoesOn, NoneBegins, Any, Fitting, IsLongest, IsRefused, IsAnswer}
 use Rattle.pa_reading.specs.Parser.{Parser, Outcome, Stop}
 use Rattle.pa_reading.proofs.Local.{Local, LocalAt, Gives, Stops, with_ahead}
 use Rattle.pa_reading.proofs.Meets.{Meets, IfRead}
@@ -77,13 +81,13 @@ module _ {A : Type 0} (Spelled : A → Cursor → Cursor → Type 0) (height : A
 
   module _ (r : Reader) where
     -- no longer list begins a tree where one is read
-    ends_there : (c e : Cursor) (t : A) (g : Gives p c t e) (u : Token) → head e.ahead ≡ Some u → NoneGoesOn Spelled height room c.ended g.front (Some u)
+    ends_there : (c e : Cursor) (t : A) (g : Gives p c t e) (u : Token) → head e.ahead ≡ Some u → NoneGoesOn Spelled (Fitting Spelled height room) c.ended g.front (Some u)
     ends_there c e t g u h = record {
       none = λ tree more to w s l.
           no_token u more w (ok_ahead (sym (g.again more (h ∙ w)) ∙ r.complete tree (record { ended = c.ended; ahead = g.front ++ more }) to s l));
     }
 
-    stops_there : (c : Cursor) (s : Stop) (g : Stops p c s) → NoneGoesOn Spelled height room c.ended g.front (head (s.at).ahead)
+    stops_there : (c : Cursor) (s : Stop) (g : Stops p c s) → NoneGoesOn Spelled (Fitting Spelled height room) c.ended g.front (head (s.at).ahead)
     stops_there c s g = record {
       none = λ tree more to w h l.
           let a = g.again more w in let b = r.complete tree (record { ended = c.ended; ahead = g.front ++ more }) to h l in cc;
@@ -104,9 +108,10 @@ module _ {A : Type 0} (Spelled : A → Cursor → Cursor → Type 0) (height : A
           longest = λ u h. ends_there (cursor_at tokens at) e t g u (sym (ap head d) ∙ sym (get_at (length tokens - length e.ahead) tokens) ∙ h);
         }
 
-    pub stopped : (tokens : List Token) (at place : ℕ) (s : Stop) → p (cursor_at tokens at) ≡ Err s → place ≡ place_at tokens (length tokens - length (s.at).ahead) → IsRefused Spelled height room tokens at place
-    stopped tokens at place s q i =
-        let g = stops_of p (cursor_at tokens at) s (r.near.holds (cursor_at tokens at)) q in
+    -- No such tree begins so, where none goes on behind what is read.
+    stopped : (such : A → Type 0) (tokens : List Token) (at place : ℕ) (s : Stop) (g : Stops p (cursor_at tokens at) s) → NoneGoesOn Spelled such (ended_at tokens at) g.front (head (s.at).ahead)
+        → place ≡ place_at tokens (length tokens - length (s.at).ahead) → NoneBegins Spelled such tokens at place
+    stopped such tokens at place s g h i =
         let d : drop (length tokens - length (s.at).ahead) tokens ≡ (s.at).ahead = left_of at tokens g.front (s.at).ahead g.split in
         record {
           end = length tokens - length (s.at).ahead;
@@ -114,7 +119,7 @@ module _ {A : Type 0} (Spelled : A → Cursor → Cursor → Type 0) (height : A
           run = g.front;
           split = g.split ∙ ap (λ l. g.front ++ l) (sym d);
           place_is = i;
-          refused = subst (NoneGoesOn Spelled height room (ended_at tokens at) g.front) (sym (ap head d) ∙ sym (get_at (length tokens - length (s.at).ahead) tokens)) (stops_there (cursor_at tokens at) s g);
+          refused = subst (NoneGoesOn Spelled such (ended_at tokens at) g.front) (sym (ap head d) ∙ sym (get_at (length tokens - length (s.at).ahead) tokens)) h;
         }
 
     stop_within : (tokens : List Token) (at : ℕ) (s : Stop) → at ≤ length tokens → p (cursor_at tokens at) ≡ Err s → at ≤ length tokens - length (s.at).ahead
@@ -141,7 +146,7 @@ module _ {A : Type 0} (Spelled : A → Cursor → Cursor → Type 0) (height : A
           spells = subst (λ x. Spelled t x (record { ended = e.ended; ahead = drop end tokens })) (behind_front at end tokens i w)
               (subst (λ l. Spelled t (on (drop end tokens) (cursor_at (take end tokens) at)) (record { ended = e.ended; ahead = l ++ drop end tokens })) n o);
           fits = h.1;
-          longest = λ u v. subst (NoneGoesOn Spelled height room (ended_at tokens at) g.front) (sym (ap head d) ∙ sym (get_at end tokens) ∙ v) (stops_there (cursor_at tokens at) s g);
+          longest = λ u v. subst (NoneGoesOn Spelled (Fitting Spelled height room) (ended_at tokens at) g.front) (sym (ap head d) ∙ sym (get_at end tokens) ∙ v) (stops_there (cursor_at tokens at) s g);
         }
 
     -- the same, as a program comes to it: its reader stands at c, and so many tokens are left
@@ -171,6 +176,39 @@ module _ {A : Type 0} (Spelled : A → Cursor → Cursor → Type 0) (height : A
             let f' : p (cursor_at (take (length tokens - length (s.at).ahead) tokens) at) ≡ Ok (t, e) = ap (λ m. p (cursor_at (take (length tokens - m) tokens) at)) (sym q) ∙ ap p (sym b) ∙ f in
             subst (λ m. IsLongest Spelled height room tokens at t (length tokens - m)) (sym q) (read_front tokens at s t e k (from_start (Err s) h) f' (none_left e.ahead z))
 
-        pub answer_stop : {B : Type 0} (tree : B → A) (rule : SynRule) (f : Fault SynRule) → f ≡ Refused rule (place_at tokens (length tokens - n)) → IsAnswer Spelled height room tree tokens at (Err f)
-        answer_stop tree rule f e = subst (λ g. IsAnswer Spelled height room tree tokens at (Err g)) (sym e)
-            (stopped tokens at (place_at tokens (length tokens - n)) s (from_start (Err s) h) (ap (λ m. place_at tokens (length tokens - m)) q))
+        stop_place : (place : ℕ) → place ≡ place_at tokens (length tokens - n) → place ≡ place_at tokens (length tokens - length (s.at).ahead)
+        stop_place place e = e ∙ ap (λ m. place_at tokens (length tokens - m)) q
+
+        pub stop_deep : (place : ℕ) → place ≡ place_at tokens (length tokens - n) → NoneBegins Spelled (Fitting Spelled height room) tokens at place
+        stop_deep place e =
+            let g = stops_of p (cursor_at tokens at) s (r.near.holds (cursor_at tokens at)) (from_start (Err s) h) in
+            stopped (Fitting Spelled height room) tokens at place s g (stops_there (cursor_at tokens at) s g) (stop_place place e)
+
+-- a reader of a form of trees for each depth, where more depth changes no refusal but those by depth
+module _ {A : Type 0} (Spelled : A → Cursor → Cursor → Type 0) (height : A → ℕ) (p : ℕ → Parser A) where
+  pub record Readers : Type 0 where
+    pub of : (room : ℕ) → Reader Spelled height room (p room)
+    pub stops : (room more : ℕ) (c : Cursor) (s : Stop) → room ≤ more → s.rule ≢ Broken S2 → p room c ≡ Err s → p more c ≡ Err s
+
+  module _ (rs : Readers) (room : ℕ) where
+    stops_for_all : (c : Cursor) (s : Stop) (g : Stops (p room) c s) → s.rule ≢ Broken S2 → NoneGoesOn Spelled Any c.ended g.front (head (s.at).ahead)
+    stops_for_all c s g n = record {
+      none = λ tree more to w h _.
+          let d = max room (height tree) in
+          let a = rs.stops room d (record { ended = c.ended; ahead = g.front ++ more }) (record { rule = s.rule; at = with_ahead s.at more }) (le-max_left room (height tree)) n (g.again more w) in
+          let b = (rs.of d).complete tree (record { ended = c.ended; ahead = g.front ++ more }) to h (le-max_right room (height tree)) in cc;
+    }
+
+    module _ (tokens : List Token) (at : ℕ) (c : Cursor) (is : c ≡ cursor_at tokens at) (e : ParseError) (to : Cursor) (n : ℕ) (h : p room c ≡ Err (record { rule = e; at = to })) (q : n ≡ length to.ahead) where
+      stop_all : e ≢ Broken S2 → (place : ℕ) → place ≡ place_at tokens (length tokens - n) → NoneBegins Spelled Any tokens at place
+      stop_all b place i =
+          let s : Stop = record { rule = e; at = to } in
+          let g = stops_of (p room) (cursor_at tokens at) s (((rs.of room).near).holds (cursor_at tokens at)) (ap (p room) (sym is) ∙ h) in
+          stopped Spelled height room (p room) (rs.of room) Any tokens at place s g (stops_for_all (cursor_at tokens at) s g b) (i ∙ ap (λ m. place_at tokens (length tokens - m)) q)
+
+      is_refused : (rule : SynRule) → e ≡ Broken rule → (place : ℕ) → place ≡ place_at tokens (length tokens - n) → IsRefused Spelled height room tokens at rule place
+      is_refused S1 b place i = stop_all (λ w. cc) place i
+      is_refused S2 b place i = stop_deep Spelled height room (p room) (rs.of room) tokens at c is (record { rule = e; at = to }) n h q place i
+
+      pub answer_stop : {B : Type 0} (tree : B → A) (rule : SynRule) (f : Fault SynRule) → e ≡ Broken rule → f ≡ Refused rule (place_at tokens (length tokens - n)) → IsAnswer Spelled height room tree tokens at (Err f)
+      answer_stop tree rule f b i = subst (λ g. IsAnswer Spelled height room tree tokens at (Err g)) (sym i) (is_refused rule b (place_at tokens (length tokens - n)) refl)
