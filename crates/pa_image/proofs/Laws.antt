@@ -27,10 +27,11 @@ use Rattle.pa_image.specs.declared.image.Image.{Image}
 use Rattle.pa_image.specs.Bytes.{data_at, header_of, part, slots_at, text_at, Stands, IsImage}
 use Rattle.pa_image.specs.Known.{Known}
 use Rattle.pa_image.specs.Reading.{symbols_at}
-use Rattle.pa_image.specs.Writing.{HasBytes, IsLegal, gap, starts_with, pages_with, bytes_of}
+use Rattle.pa_image.specs.Writing.{BesideBytes, HasBytes, IsLegal, gap, starts_with, pages_with, bytes_of}
 use Rattle.pa_image.proofs.Cut.{starts_known, part_stands, IsBytes-part}
 use Rattle.pa_image.proofs.Header.{known, parts_moved}
 use Rattle.pa_image.proofs.Made.{pieces, bytes_joined, chained, sized, image_made, writable}
+use Rattle.pa_image.proofs.Numbers.{bytes_are_bytes}
 use Rattle.pa_image.proofs.Small.{fits_end}
 use Rattle.pa_image.proofs.Whole.{text_only, stubs_only, consts_only, image_only, slots_moved}
 
@@ -228,8 +229,8 @@ legal_stands image l =
     (slots_held at slots count l.words.cells w.inside l.parts.slots) refl
 
 -- an image of words and bytes is legal exactly where some bytes stand for it
-pub legal_has_bytes : (image : Image) → IsLegal image → HasBytes image
-legal_has_bytes image l = (bytes_of image, legal_stands image l)
+pub legal_has_bytes : (image : Image) → BesideBytes image → IsLegal image → HasBytes image
+legal_has_bytes image b l = (bytes_of image, (bytes_are_bytes image b l.words.cells, legal_stands image l))
 
 pub has_bytes_legal : (image : Image) → IsBytes image.cells → HasBytes image → IsLegal image
-has_bytes_legal image fits b = image_legal image b.0 fits b.1
+has_bytes_legal image fits b = image_legal image b.0 fits b.1.1

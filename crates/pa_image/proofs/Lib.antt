@@ -3,6 +3,7 @@ pub mod Header
 pub mod Laws
 pub mod Limits
 pub mod Made
+pub mod Numbers
 pub mod Small
 pub mod Whole
 pub mod Words

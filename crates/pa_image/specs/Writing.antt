@@ -9,22 +9,32 @@ use Rattle.pa_macho.specs.Writing.{HeaderFits, front_of}
 use Rattle.pa_fixups.specs.Fixups.{ImportsFit, fixups_bytes, fixups_with}
 use Rattle.pa_slots.specs.Slots.{plain_of, slots_with}
 use Rattle.pa_slots.specs.Writing.{SlotsFit, starts_of, pages_of}
-use Rattle.pa_symbols.specs.Symbols.{AreLegal, symbols_of, strings_of}
+use Rattle.pa_symbols.specs.Symbols.{AreLegal, names_of, symbols_of, strings_of}
 use Rattle.pa_image.specs.declared.image.Image.{Image}
 use Rattle.pa_image.specs.Bytes.{data_at, header_of, slots_at, text_at, words_bytes, IsImage}
 
--- some bytes stand for the image
-abbrev pub HasBytes : Image → Type 0
-HasBytes image = (bytes : List ℕ) × IsImage image bytes
-
 abbrev pub AreBytes : List ℕ → Type 0
 AreBytes bytes = (i : ℕ) → slice_index bytes i < 256
+
+-- some bytes stand for the image
+abbrev pub HasBytes : Image → Type 0
+HasBytes image = (bytes : List ℕ) × (AreBytes bytes × IsImage image bytes)
 
 -- the code is of words, and what stands beside the slots is of bytes
 pub record AreWords (image : Image) : Type 0 where
   pub text : AllFit (map four image.text)
   pub stubs : AllFit (map four image.stubs)
   pub cells : AreBytes image.cells
+
+abbrev pub AllBytes : List (List ℕ) → Type 0
+AllBytes [] = Unit {0}
+AllBytes (part ∷ parts) = AreBytes part × AllBytes parts
+
+-- what else in an image is of bytes
+pub record BesideBytes (image : Image) : Type 0 where
+  pub consts : AreBytes image.consts
+  pub marks : AllBytes (names_of image.marks)
+  pub imports : AllBytes image.imports
 
 -- each part fits, where the image's header and places are these
 pub record PartsFit (image : Image) (h : Header) (p : Places) : Type 0 where

@@ -4,7 +4,7 @@ ghost use Rattle.pa_layout.specs.Names.{ended};
 ghost use Rattle.pa_symbols.specs.Symbols.{names_of};
 ghost use Rattle.pa_image.specs.Bytes as spec;
 ghost use Rattle.pa_image.specs.Bytes.{sections_of, header_of};
-ghost use Rattle.pa_image.specs.Writing.{AreBytes, AreWords, SectionsSmall, HeaderSmall};
+ghost use Rattle.pa_image.specs.Writing.{AreBytes, AllBytes, AreWords, BesideBytes, SectionsSmall, HeaderSmall};
 
 use crate::image::Image;
 use crate::parts::data_at;
@@ -21,10 +21,11 @@ const LIMIT: u128 = 0x1_0000_0000;
 fn names_size(names: &[Name]) -> u128
     ensures value { result ≡ length (ended names.now) }
     ensures small { result < 2 ^ 127 }
+    ensures fit { AllBytes names.now }
 {
     let mut size: u128 = 0;
     for name in names {
-        size += name.len() as u128 + 1;
+        size += bytes_size(name.as_slice()) + 1;
     }
     size
 }
@@ -34,17 +35,19 @@ fn names_size(names: &[Name]) -> u128
 fn mark_names_size(marks: &[Mark]) -> u128
     ensures value { result ≡ length (ended (names_of marks.now)) }
     ensures small { result < 2 ^ 127 }
+    ensures fit { AllBytes (names_of marks.now) }
 {
     let mut size: u128 = 0;
     for mark in marks {
-        size += mark.name.len() as u128 + 1;
+        size += bytes_size(mark.name.as_slice()) + 1;
     }
     size
 }
 
 /// The bytes of the fixups of an image with these imports.
 fn fixups_size(at: DataAt, imports: &[Name]) -> u128
-    ensures { result ≡ spec.fixups_size at imports.now }
+    ensures size { result ≡ spec.fixups_size at imports.now }
+    ensures fit { AllBytes imports.now }
 {
     let starts_end = 78 + 2 * at.pages as u128;
     let names = (starts_end + 3) / 4 * 4 + 4 * imports.len() as u128;
@@ -71,11 +74,13 @@ fn bytes_size(bytes: &[u8]) -> u128
 fn are_sections_small(image: &Image) -> bool
     ensures small { IsTrue result ↔ SectionsSmall image.now }
     ensures words { AreWords image.now }
+    ensures consts { AreBytes image.now.consts }
 {
     let text = words_size(image.text.as_slice());
     let stubs = words_size(image.stubs.as_slice());
     let cells = bytes_size(image.cells.as_slice());
-    text < LIMIT && stubs < LIMIT && (image.consts.len() as u128) < LIMIT && cells < LIMIT
+    let consts = bytes_size(image.consts.as_slice());
+    text < LIMIT && stubs < LIMIT && consts < LIMIT && cells < LIMIT
 }
 
 /// The header of the image's sections alone.
@@ -110,6 +115,8 @@ fn linked_sizes(image: &Image) -> Linked
     ensures fixups { result.fixups ≡ (header_of image.now).fixups }
     ensures symbols { result.symbols ≡ (header_of image.now).symbols }
     ensures strings { result.strings ≡ (header_of image.now).strings }
+    ensures marks { AllBytes (names_of image.now.marks) }
+    ensures imports { AllBytes image.now.imports }
 {
     let places = sections(image).places();
     let at = data_at(image.role, &places);
@@ -124,6 +131,7 @@ fn linked_sizes(image: &Image) -> Linked
 pub(crate) fn is_small(image: &Image) -> bool
     ensures small { IsTrue result ↔ HeaderSmall image.now }
     ensures words { AreWords image.now }
+    ensures beside { IsTrue result → BesideBytes image.now }
 {
     if !are_sections_small(image) {
         return false;
