@@ -1,6 +1,6 @@
 -- Where things stand once images are loaded: functions, the places behind calls, the slots of imports and the words of code.
 use Rattle.std.specs.Prelude.{ℕ, zero, suc, ◌+◌, ◌*◌, ◌/◌, Bool, true, false, ◌==◌, if◌then◌else◌, List, [], ◌∷◌, ◌++◌, map, filter, Option, Some, None}
-use Rattle.std.specs.Option.{option_map_or}
+use Rattle.std.specs.Option.{option_map_or, option_or}
 use Rattle.std.specs.Str.{bytes_eq}
 use Rattle.pa_a64.specs.declared.instr.Instr.{Instr}
 use Rattle.pa_a64.specs.declared.instr.Instr.TheVariants as instr
@@ -44,11 +44,6 @@ text_base base = base + 0x400
 abbrev pub mark_address : (base : ℕ) → Mark → ℕ
 mark_address base mark = text_base base + 4 * mark.at
 
--- the first of two addresses that is there
-abbrev pub or_address : Option ℕ → Option ℕ → Option ℕ
-or_address None other = other
-or_address (Some address) other = Some address
-
 -- the function of a name; of several with one name it is the first
 abbrev pub function_at : (base : ℕ) → List Mark → (name : List ℕ) → Option ℕ
 function_at base [] name = None
@@ -66,7 +61,7 @@ entries (m ∷ ms) = map (mark_address m.base) m.image.marks ++ entries ms
 
 abbrev pub entry : List Mapped → (name : List ℕ) → Option ℕ
 entry [] name = None
-entry (m ∷ ms) name = or_address (function_at m.base m.image.marks name) (entry ms name)
+entry (m ∷ ms) name = option_or (function_at m.base m.image.marks name) (entry ms name)
 
 -- ---- behind calls
 
@@ -140,4 +135,4 @@ word_from from (word ∷ words) at = if from == at then Some word else word_from
 -- the word that stands at a place of these areas
 abbrev pub word_of : List Area → (at : ℕ) → Option ℕ
 word_of [] at = None
-word_of (area ∷ areas) at = or_address (word_from area.from area.words at) (word_of areas at)
+word_of (area ∷ areas) at = option_or (word_from area.from area.words at) (word_of areas at)
