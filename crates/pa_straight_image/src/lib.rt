@@ -1,0 +1,4 @@
+//! The image of a program of the first form, and what its run shows.
+#![tactic(auto)]
+
+mod code;
