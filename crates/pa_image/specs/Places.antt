@@ -93,7 +93,7 @@ is_call (instr.Blraaz rn) = true
 is_call other = false
 
 abbrev pub calls : (word : ℕ) → Bool
-calls word = option_map_or is_call false (decoded word)
+calls word = option_map_or is_call (decoded word) false
 
 -- the places behind calls in words from a place on
 abbrev pub afters_from : ℕ → List ℕ → List ℕ

@@ -2,3 +2,6 @@
 #![tactic(auto)]
 
 mod code;
+mod image;
+
+pub use image::program_image;
