@@ -1,15 +1,14 @@
 -- Parts of a file between two places.
-use Rattle.std.proofs.Common.{◌≡◌, ℕ, ◌+◌, ◌-◌, ◌*◌, ◌/◌, ◌%◌, ◌≤◌, ◌<◌, ◌^◌, List, ◌++◌, length, take, drop, refl, sym, ap, subst, ◌∙◌, arith}
+use Rattle.std.proofs.Common.{◌≡◌, ℕ, ◌+◌, ◌-◌, ◌*◌, ◌%◌, ◌≤◌, ◌<◌, ◌^◌, List, ◌++◌, length, take, drop, sym, ap, ◌∙◌, arith}
 use Rattle.std.proofs.lemmas.List.{length-take-le, length-drop, take_at, take-append-drop, drop-drop}
 use Rattle.pa_layout.specs.Fields.{AllFit, IsAt}
 use Rattle.pa_layout.proofs.Laws.{IsBytes}
 use Rattle.pa_macho.specs.declared.header.Header.{Header}
-use Rattle.pa_macho.specs.declared.header.Role.{Role}
 use Rattle.pa_macho.specs.declared.places.Places.{Places}
-use Rattle.pa_macho.specs.Layout.{Ordered, page_count}
+use Rattle.pa_macho.specs.Layout.{page_count}
 use Rattle.pa_fixups.specs.declared.tables.DataAt.{DataAt}
 use Rattle.pa_fixups.specs.declared.tables.Fixups.{Fixups}
-use Rattle.pa_fixups.specs.Fixups.{header_of, pages_of, FixupsFit, IsPart}
+use Rattle.pa_fixups.specs.Fixups.{pages_of, IsPart}
 use Rattle.pa_fixups.proofs.Whole.{count_small}
 use Rattle.pa_slots.specs.Pages.{page_size, cells_from}
 use Rattle.pa_slots.proofs.Pages.{IsBytes-take, IsBytes-drop}

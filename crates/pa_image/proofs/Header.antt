@@ -1,5 +1,5 @@
 -- What a header says of the file.
-use Rattle.std.proofs.Common.{suc, List, [], ◌∷◌, Option, Some, None, Result, Ok, Err, refl, ap, ◌∙◌, ◌≡◌, ℕ, ◌+◌, ◌-◌, ◌*◌, ◌/◌, ◌%◌, ◌≤◌, ◌<◌, ◌^◌, eqb, length, sym, subst, arith}
+use Rattle.std.proofs.Common.{suc, List, [], ◌∷◌, Some, Result, Ok, Err, refl, ap, ◌∙◌, ◌≡◌, ℕ, ◌+◌, ◌*◌, ◌%◌, ◌<◌, ◌^◌, length, sym, subst, arith}
 use Rattle.std.specs.Result.{IsErrAnd}
 use Rattle.std.proofs.lemmas.Bool.{eqb-true}
 use Rattle.std.proofs.lemmas.List.{length-append}
@@ -25,8 +25,8 @@ use Rattle.pa_macho.specs.declared.header.Header.{Header}
 use Rattle.pa_macho.specs.declared.places.Places.{Places}
 use Rattle.pa_macho.specs.Layout.{Ordered, page_count, up, places_of, section_of, text_section, stubs_section, fixups_command, symbols_command}
 use Rattle.pa_macho.specs.Reading.{segment_checks, IsHeader, Refuses, header_flaw}
-use Rattle.pa_layout.specs.Flaws.{AllMet, AnswersOrMemory, flaw_at, ◌then◌}
-use Rattle.pa_macho.proofs.Facts.{Spans, spans}
+use Rattle.pa_layout.specs.Flaws.{AllMet, AnswersOrMemory, flaw_at}
+use Rattle.pa_macho.proofs.Facts.{spans}
 use Rattle.pa_macho.proofs.Laws.{header_ends, taken_again, header_again}
 use Rattle.pa_image.specs.Known.{Known}
 

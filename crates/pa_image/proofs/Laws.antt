@@ -1,6 +1,6 @@
 -- The laws of images and their bytes: an image that bytes stand for is legal, bytes stand for one image, and one image has one
 -- spelling.
-use Rattle.std.proofs.Common.{◌≡◌, ℕ, ◌+◌, ◌-◌, ◌*◌, ◌/◌, ◌≤◌, ◌<◌, ◌^◌, List, length, refl, subst, sym, ap, ◌∙◌, arith}
+use Rattle.std.proofs.Common.{◌≡◌, ℕ, ◌+◌, ◌*◌, ◌/◌, ◌≤◌, List, length, refl, subst, sym, ap, ◌∙◌, arith}
 use Rattle.pa_layout.specs.Fields.{AllFit, IsAt, numbers}
 use Rattle.pa_layout.specs.Flaws.{AllMet}
 use Rattle.pa_layout.proofs.Laws.{IsBytes}
@@ -17,12 +17,9 @@ use Rattle.pa_fixups.specs.declared.tables.DataAt.{DataAt}
 use Rattle.pa_fixups.specs.declared.tables.Fixups.{Fixups}
 use Rattle.pa_fixups.specs.Fixups.{fixups_bytes, fixups_with, FixupsFit, ImportsFit}
 use Rattle.pa_fixups.proofs.Whole.{parts_only}
-use Rattle.pa_object.specs.declared.object.Mark.{Mark}
-use Rattle.pa_symbols.specs.Symbols.{symbols_of, strings_of}
 use Rattle.pa_symbols.proofs.Only.{tables_only}
-use Rattle.pa_slots.specs.declared.slots.Slots.{Slots}
 use Rattle.pa_slots.proofs.Whole.{slots_again}
-use Rattle.pa_slots.proofs.Held.{held_fit, slots_spelled, length-starts_of}
+use Rattle.pa_slots.proofs.Held.{all_writable, held_fit, length-pages_of, length-plain_of, length-starts_of, slots_held, slots_spelled, starts_fit}
 use Rattle.pa_slots.specs.Pages.{page_size, cells_from}
 use Rattle.pa_slots.specs.Slots.{slots_with, plain_of}
 use Rattle.pa_slots.specs.Writing.{starts_of, pages_of}
@@ -30,10 +27,10 @@ use Rattle.pa_image.specs.declared.image.Image.{Image}
 use Rattle.pa_image.specs.Bytes.{data_at, header_of, part, slots_at, text_at, Stands, IsImage}
 use Rattle.pa_image.specs.Known.{Known}
 use Rattle.pa_image.specs.Reading.{symbols_at}
-use Rattle.pa_image.specs.Writing.{IsLegal, gap}
+use Rattle.pa_image.specs.Writing.{HasBytes, IsLegal, gap, starts_with, pages_with, bytes_of}
 use Rattle.pa_image.proofs.Cut.{starts_known, part_stands, IsBytes-part}
 use Rattle.pa_image.proofs.Header.{known, parts_moved}
-use Rattle.pa_image.proofs.Made.{pieces, chained, sized}
+use Rattle.pa_image.proofs.Made.{pieces, bytes_joined, chained, sized, image_made, writable}
 use Rattle.pa_image.proofs.Small.{fits_end}
 use Rattle.pa_image.proofs.Whole.{text_only, stubs_only, consts_only, image_only, slots_moved}
 
@@ -91,8 +88,8 @@ imports_fit at fixups f = record {
   names = f.names;
 }
 
-pub image_legal : (image : Image) (bytes : List ℕ) → IsImage image bytes → IsLegal image
-image_legal image bytes i =
+pub image_legal : (image : Image) (bytes : List ℕ) → IsBytes image.cells → IsImage image bytes → IsLegal image
+image_legal image bytes fits i =
     let h = header_of image in
     let p = places_of h in
     let k = known_of h bytes i.header in
@@ -101,6 +98,7 @@ image_legal image bytes i =
     let size : length (part p.got p.linkedit bytes) ≡ page_size * length starts = f.size in
     let inside : cells_from (slots_at h p (length image.imports)) + h.cells ≤ length (part p.got p.linkedit bytes) = f.inside in
     record {
+      words = record { text = i.parts.text.1; stubs = i.parts.stubs.1; cells = fits };
       header = header_fits h bytes i.header;
       parts = record {
         imports = imports_fit (data_at h.role p) (fixups_with starts image.imports) i.parts.fixups.fit;
@@ -165,12 +163,6 @@ gaps_stand : (h : Header) (p : Places) (bytes : List ℕ) → AllMet bytes (gap_
 unfolding gap_checks
 gaps_stand h p bytes m = (m.1.0, m.1.1.0, m.1.1.1.0, m.1.1.1.1.1.1.1.0, m.1.1.1.1.1.1.1.1.0)
 
-abbrev starts_with : Image → Places → List ℕ
-starts_with image p = starts_of 0 (page_count p) image.fixes
-
-abbrev pages_with : Image → Header → Places → List ℕ
-pages_with image h p = pages_of 0 (page_count p) image.fixes (plain_of (slots_at h p (length image.imports)) (page_count p) image.cells)
-
 parts_stand : (image : Image) (bytes : List ℕ) (i : IsImage image bytes) → part (places_of (header_of image)).got (places_of (header_of image)).linkedit bytes ≡ pages_with image (header_of image) (places_of (header_of image)) → i.parts.starts ≡ starts_with image (places_of (header_of image))
     → AllAt bytes (pieces image (header_of image) (places_of (header_of image)) (pages_with image (header_of image) (places_of (header_of image))) (starts_with image (places_of (header_of image))))
 parts_stand image bytes i pages_are starts_are =
@@ -208,6 +200,36 @@ image_spelled image bytes b i =
     pieces-whole bytes (pieces image h p (pages_with image h p) (starts_with image p)) (subst (λ (n : ℕ). Chained 0 (pieces image h p (pages_with image h p) (starts_with image p)) n) (sym (header_ends h bytes i.header)) c)
     (parts_stand image bytes i pages_are starts_are)
 
+-- the bytes that stand for an image are its bytes
+pub bytes_spelled : (image : Image) (bytes : List ℕ) → IsBytes bytes → IsImage image bytes → bytes ≡ bytes_of image
+unfolding bytes_of
+bytes_spelled image bytes b i =
+    let h = header_of image in
+    let p = places_of h in
+    image_spelled image bytes b i ∙ bytes_joined image h p (pages_with image h p) (starts_with image p)
+
 -- one image has one spelling
 pub one_spelling : (image : Image) (bytes other : List ℕ) → IsBytes bytes → IsBytes other → IsImage image bytes → IsImage image other → bytes ≡ other
-one_spelling image bytes other b c i j = image_spelled image bytes b i ∙ sym (image_spelled image other c j)
+one_spelling image bytes other b c i j = bytes_spelled image bytes b i ∙ sym (bytes_spelled image other c j)
+
+-- the bytes of a legal image stand for it
+pub legal_stands : (image : Image) → IsLegal image → IsImage image (bytes_of image)
+unfolding bytes_of
+legal_stands image l =
+    let h = header_of image in
+    let p = places_of h in
+    let w = writable image h p refl refl l in
+    let count = page_count p in
+    let at = slots_at h p (length image.imports) in
+    let slots = slots_with image.cells image.fixes in
+    let fits = all_writable at slots count l.parts.slots in
+    let size = length-pages_of 0 count image.fixes (plain_of at count image.cells) fits (length-plain_of at count image.cells l.parts.slots.cells w.inside) in
+    image_made image (pages_with image h p) (starts_with image p) (bytes_of image) l size (length-starts_of 0 count image.fixes) (starts_fit 0 count image.fixes fits)
+    (slots_held at slots count l.words.cells w.inside l.parts.slots) refl
+
+-- an image of words and bytes is legal exactly where some bytes stand for it
+pub legal_has_bytes : (image : Image) → IsLegal image → HasBytes image
+legal_has_bytes image l = (bytes_of image, legal_stands image l)
+
+pub has_bytes_legal : (image : Image) → IsBytes image.cells → HasBytes image → IsLegal image
+has_bytes_legal image fits b = image_legal image b.0 fits b.1

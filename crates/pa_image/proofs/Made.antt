@@ -1,5 +1,5 @@
 -- The bytes that are written stand for the image.
-use Rattle.std.proofs.Common.{◌≡◌, ℕ, suc, ◌+◌, ◌-◌, ◌*◌, ◌/◌, ◌%◌, ◌≤◌, ◌<◌, ◌^◌, min, List, [], ◌∷◌, ◌++◌, length, map, get_or, replicate, refl, sym, ap, subst, ◌∙◌, append_assoc, arith}
+use Rattle.std.proofs.Common.{◌≡◌, ℕ, suc, ◌+◌, ◌-◌, ◌*◌, ◌≤◌, ◌<◌, ◌^◌, List, [], ◌∷◌, ◌++◌, length, map, get_or, replicate, refl, sym, ap, subst, ◌∙◌, append_assoc, arith}
 use Rattle.std.specs.List.{concat}
 use Rattle.std.proofs.Math.Nat.{min-eq_right}
 use Rattle.std.proofs.lemmas.List.{length-replicate, append-nil}
@@ -7,17 +7,17 @@ use Rattle.pa_layout.specs.Fields.{four, two, IsAt, AllFit}
 use Rattle.pa_layout.specs.Names.{ended}
 use Rattle.pa_layout.specs.Flaws.{AllMet}
 use Rattle.pa_layout.proofs.Laws.{IsAt-itself, IsAt-within}
-use Rattle.pa_layout.proofs.Pieces.{Piece, piece, AllAt, Chained, joined, pieces-apart, length-joined}
+use Rattle.pa_layout.proofs.Pieces.{Piece, piece, Chained, joined, pieces-apart, length-joined}
 use Rattle.pa_macho.specs.declared.header.Header.{Header}
 use Rattle.pa_macho.specs.declared.places.Places.{Places}
 use Rattle.pa_macho.specs.Layout.{places_of, page_count, padding_low, padding_high, commands_end, up}
-use Rattle.pa_macho.specs.Reading.{gap_checks, IsHeader}
+use Rattle.pa_macho.specs.Reading.{gap_checks}
 use Rattle.pa_macho.specs.Writing.{HeaderFits, front_of}
 use Rattle.pa_macho.proofs.Facts.{spans}
 use Rattle.pa_macho.proofs.Front.{front_zeros, front_enough, length-front}
 use Rattle.pa_fixups.specs.declared.tables.DataAt.{DataAt}
 use Rattle.pa_fixups.specs.declared.kind.Fix.{Fix}
-use Rattle.pa_fixups.specs.Fixups.{pages_of, starts_end, imports_at, names_at, fixups_bytes, fixups_with, FixupsFit, ImportsFit}
+use Rattle.pa_fixups.specs.Fixups.{pages_of, starts_end, imports_at, fixups_bytes, fixups_with, FixupsFit}
 use Rattle.pa_fixups.proofs.Whole.{length-fixups, padding_zeros, imports_and_starts}
 use Rattle.pa_fixups.proofs.Fitting.{count_fits}
 use Rattle.pa_slots.specs.declared.slots.SlotsAt.{SlotsAt}
@@ -27,8 +27,8 @@ use Rattle.pa_slots.specs.Slots.{slots_with, AreSlots}
 use Rattle.pa_slots.proofs.Beside.{gap_zeros, end_zeros}
 use Rattle.pa_symbols.specs.Symbols.{names_of, symbols_of, strings_of}
 use Rattle.pa_image.specs.declared.image.Image.{Image}
-use Rattle.pa_image.specs.Bytes.{data_at, fixups_size, sections_of, header_of, slots_at, text_at, part, words_bytes, Stands, IsImage}
-use Rattle.pa_image.specs.Writing.{PartsFit, IsLegal, gap, text_parts, linkedit_parts}
+use Rattle.pa_image.specs.Bytes.{data_at, fixups_size, sections_of, header_of, slots_at, text_at, words_bytes, IsImage}
+use Rattle.pa_image.specs.Writing.{PartsFit, IsLegal, gap, text_parts, linkedit_parts, bytes_with}
 use Rattle.pa_image.proofs.Cut.{part_is}
 use Rattle.pa_image.proofs.Header.{pages_whole, cells_place, sections_same, data_same, length-symbols}
 use Rattle.pa_image.proofs.Words.{length-words}
@@ -40,15 +40,11 @@ pieces image h p slots starts =
     ∷ piece p.consts image.consts ∷ piece p.consts_end (gap p.consts_end p.got) ∷ piece p.got slots ∷ piece p.linkedit (fixups_bytes (data_at h.role p) (fixups_with starts image.imports))
     ∷ piece p.fixups_end (gap p.fixups_end p.symbols) ∷ piece p.symbols (symbols_of (text_at h) image.marks) ∷ piece p.symbols_end (gap p.symbols_end p.strings) ∷ piece p.strings (strings_of image.marks) ∷ []
 
--- the bytes, in the order in which they are written
-abbrev pub written : Image → Header → Places → (slots starts : List ℕ) → List ℕ
-written image h p slots starts = front_of h ++ (concat (text_parts image p) ++ (slots ++ concat (linkedit_parts image h p starts)))
-
 concat_put : (a b c d e f rest : List ℕ) → a ++ (b ++ (c ++ (d ++ (e ++ (f ++ rest))))) ≡ concat (a ∷ b ∷ c ∷ d ∷ e ∷ f ∷ []) ++ rest
 concat_put a b c d e f rest = simp (append_assoc, append-nil)
 
-written_joined : (image : Image) (h : Header) (p : Places) (slots starts : List ℕ) → joined (pieces image h p slots starts) ≡ written image h p slots starts
-written_joined image h p slots starts =
+pub bytes_joined : (image : Image) (h : Header) (p : Places) (slots starts : List ℕ) → joined (pieces image h p slots starts) ≡ bytes_with image h p slots starts
+bytes_joined image h p slots starts =
     ap (λ (l : List ℕ). front_of h ++ l) (concat_put (words_bytes image.text) (gap p.text_end p.stubs) (words_bytes image.stubs) (gap p.stubs_end p.consts) image.consts (gap p.consts_end p.got) (slots ++ concat (linkedit_parts image h p starts)))
 
 -- the sizes of the parts are those of the header
@@ -130,17 +126,17 @@ got_same : (image : Image) → image.got ≡ (header_of image).got
 unfolding header_of
 got_same image = refl
 
-pub image_made : (image : Image) (slots starts bytes : List ℕ) → IsLegal image → AllFit (map four image.text) → AllFit (map four image.stubs) → length slots ≡ page_size * page_count (places_of (header_of image)) → length starts ≡ page_count (places_of (header_of image)) → AllFit (map two starts)
-    → AreSlots (slots_at (header_of image) (places_of (header_of image)) (length image.imports)) starts (slots_with image.cells image.fixes) slots → bytes ≡ written image (header_of image) (places_of (header_of image)) slots starts → IsImage image bytes
-image_made image slots starts bytes legal ft fs ls lt fits held e =
+pub image_made : (image : Image) (slots starts bytes : List ℕ) → IsLegal image → length slots ≡ page_size * page_count (places_of (header_of image)) → length starts ≡ page_count (places_of (header_of image)) → AllFit (map two starts)
+    → AreSlots (slots_at (header_of image) (places_of (header_of image)) (length image.imports)) starts (slots_with image.cells image.fixes) slots → bytes ≡ bytes_with image (header_of image) (places_of (header_of image)) slots starts → IsImage image bytes
+image_made image slots starts bytes legal ls lt fits held e =
     let h = header_of image in
     let p = places_of h in
     let s = spans h in
     let z = sized image slots starts ls lt in
     let c = chained image h slots starts z in
-    let here : IsAt bytes 0 (joined (pieces image h p slots starts)) = subst (IsAt bytes 0) (e ∙ sym (written_joined image h p slots starts)) (IsAt-itself bytes) in
+    let here : IsAt bytes 0 (joined (pieces image h p slots starts)) = subst (IsAt bytes 0) (e ∙ sym (bytes_joined image h p slots starts)) (IsAt-itself bytes) in
     let a = pieces-apart bytes 0 (pieces image h p slots starts) p.end c here in
-    let whole : bytes ≡ joined (pieces image h p slots starts) = e ∙ sym (written_joined image h p slots starts) in
+    let whole : bytes ≡ joined (pieces image h p slots starts) = e ∙ sym (bytes_joined image h p slots starts) in
     let lj = length-joined 0 (pieces image h p slots starts) p.end c in
     let len : length bytes ≡ p.end = ap length whole ∙ (let f : length (joined (pieces image h p slots starts)) ≡ p.end = omega arith in f) in
     let at = slots_at h p (length image.imports) in
@@ -177,8 +173,8 @@ image_made image slots starts bytes legal ft fs ls lt fits held e =
         stubs_size = sym z.stubs;
         consts_size = sym z.consts;
         got_size = got_same image;
-        text = (a.1.0, ft);
-        stubs = (a.1.1.1.0, fs);
+        text = (a.1.0, legal.words.text);
+        stubs = (a.1.1.1.0, legal.words.stubs);
         consts = a.1.1.1.1.1.0;
         starts = starts;
         fixups = record { bytes_are = part_is p.linkedit p.fixups_end bytes fb (omega arith) fixups; fit = f };
@@ -251,16 +247,16 @@ words_all (x ∷ xs) h = (h 0, refl, words_all xs (λ i. h (suc i)))
 pub words_fit : (words row : List ℕ) → words ≡ row → ((i : ℕ) → get_or words i 0 < 2 ^ 32) → AllFit (map four row)
 words_fit words row e h = subst (λ (l : List ℕ). AllFit (map four l)) e (words_all words h)
 
-made_at : (image : Image) (h : Header) (p : Places) (slots starts bytes : List ℕ) → h ≡ header_of image → p ≡ places_of h → IsLegal image → AllFit (map four image.text) → AllFit (map four image.stubs) → length slots ≡ page_size * page_count p → length starts ≡ page_count p → AllFit (map two starts)
-    → AreSlots (slots_at h p (length image.imports)) starts (slots_with image.cells image.fixes) slots → bytes ≡ written image h p slots starts → IsImage image bytes
-made_at image h p slots starts bytes eh ep l ft fs ls lt fits held e =
+made_at : (image : Image) (h : Header) (p : Places) (slots starts bytes : List ℕ) → h ≡ header_of image → p ≡ places_of h → IsLegal image → length slots ≡ page_size * page_count p → length starts ≡ page_count p → AllFit (map two starts)
+    → AreSlots (slots_at h p (length image.imports)) starts (slots_with image.cells image.fixes) slots → bytes ≡ bytes_with image h p slots starts → IsImage image bytes
+made_at image h p slots starts bytes eh ep l ls lt fits held e =
     let same : p ≡ places_of (header_of image) = ep ∙ ap places_of eh in
-    image_made image slots starts bytes l ft fs (subst (λ (q : Places). length slots ≡ page_size * page_count q) same ls) (subst (λ (q : Places). length starts ≡ page_count q) same lt) fits
+    image_made image slots starts bytes l (subst (λ (q : Places). length slots ≡ page_size * page_count q) same ls) (subst (λ (q : Places). length starts ≡ page_count q) same lt) fits
     (subst (λ (q : Places). AreSlots (slots_at (header_of image) q (length image.imports)) starts (slots_with image.cells image.fixes) slots) same (subst (λ (x : Header). AreSlots (slots_at x p (length image.imports)) starts (slots_with image.cells image.fixes) slots) eh held))
-    (subst (λ (q : Places). bytes ≡ written image (header_of image) q slots starts) same (subst (λ (x : Header). bytes ≡ written image x p slots starts) eh e))
+    (subst (λ (q : Places). bytes ≡ bytes_with image (header_of image) q slots starts) same (subst (λ (x : Header). bytes ≡ bytes_with image x p slots starts) eh e))
 
-pub written_made : (image : Image) (h : Header) (p : Places) (slots starts o0 o1 o2 o3 : List ℕ) → h ≡ header_of image → p ≡ places_of h → IsLegal image → AllFit (map four image.text) → AllFit (map four image.stubs) → length slots ≡ page_size * page_count p → length starts ≡ page_count p → AllFit (map two starts)
+pub written_made : (image : Image) (h : Header) (p : Places) (slots starts o0 o1 o2 o3 : List ℕ) → h ≡ header_of image → p ≡ places_of h → IsLegal image → length slots ≡ page_size * page_count p → length starts ≡ page_count p → AllFit (map two starts)
     → AreSlots (slots_at h p (length image.imports)) starts (slots_with image.cells image.fixes) slots → o0 ≡ front_of h → o1 ≡ o0 ++ concat (text_parts image p) → o2 ≡ o1 ++ slots → o3 ≡ o2 ++ concat (linkedit_parts image h p starts) → IsImage image o3
-written_made image h p slots starts o0 o1 o2 o3 eh ep l ft fs ls lt fits held e0 e1 e2 e3 =
-    let all : o3 ≡ written image h p slots starts = rw (e3, e2, e1, e0) (append_assoc (front_of h ++ concat (text_parts image p)) slots (concat (linkedit_parts image h p starts)) ∙ append_assoc (front_of h) (concat (text_parts image p)) (slots ++ concat (linkedit_parts image h p starts))) in
-    made_at image h p slots starts o3 eh ep l ft fs ls lt fits held all
+written_made image h p slots starts o0 o1 o2 o3 eh ep l ls lt fits held e0 e1 e2 e3 =
+    let all : o3 ≡ bytes_with image h p slots starts = rw (e3, e2, e1, e0) (append_assoc (front_of h ++ concat (text_parts image p)) slots (concat (linkedit_parts image h p starts)) ∙ append_assoc (front_of h) (concat (text_parts image p)) (slots ++ concat (linkedit_parts image h p starts))) in
+    made_at image h p slots starts o3 eh ep l ls lt fits held all

@@ -1,14 +1,13 @@
 -- What is read is the image of the bytes.
-use Rattle.std.proofs.Common.{◌≡◌, ℕ, ◌+◌, ◌-◌, ◌*◌, ◌/◌, ◌%◌, ◌≤◌, ◌<◌, List, length, Option, Some, None, Result, Ok, Err, refl, sym, ap, subst, ◌∙◌, arith}
+use Rattle.std.proofs.Common.{◌≡◌, ℕ, ◌+◌, ◌/◌, ◌≤◌, List, length, Option, Some, None, Result, Ok, Err, refl, sym, ap, subst, ◌∙◌, arith}
 use Rattle.std.specs.Result.{IsErrAnd}
 use Rattle.pa_num.specs.declared.fault.ImageRule.{ImageRule}
 use Rattle.pa_num.specs.declared.fault.Fault.{Fault}
 use Rattle.pa_num.specs.declared.fault.Fault.TheVariants.{Refused, Memory}
 use Rattle.pa_layout.specs.declared.checks.Flaw.{Flaw}
-use Rattle.pa_layout.specs.Fields.{numbers, IsAt}
+use Rattle.pa_layout.specs.Fields.{numbers}
 use Rattle.pa_layout.specs.Flaws.{flaw_at, AnswersOrMemory, GivesOrMemory, ◌then◌}
 use Rattle.pa_layout.proofs.Laws.{IsBytes}
-use Rattle.pa_layout.proofs.Facts.{none_then}
 use Rattle.pa_macho.specs.declared.header.Role.{Role}
 use Rattle.pa_macho.specs.declared.header.Header.{Header}
 use Rattle.pa_macho.specs.declared.places.Places.{Places}
@@ -25,10 +24,10 @@ use Rattle.pa_symbols.specs.declared.places.TextAt.{TextAt}
 use Rattle.pa_symbols.specs.Symbols.{AreMarks}
 use Rattle.pa_symbols.specs.Reading.{symbols_flaw}
 use Rattle.pa_image.specs.declared.image.Image.{Image}
-use Rattle.pa_image.specs.Bytes.{part, data_at, slots_at, text_at, words_bytes, Stands}
+use Rattle.pa_image.specs.Bytes.{part, data_at, slots_at, text_at, Stands}
 use Rattle.pa_image.specs.Reading.{moved, fixups_in, symbols_at, parts_flaw}
 use Rattle.pa_image.specs.Known.{Known}
-use Rattle.pa_image.proofs.Cut.{length-part, IsBytes-part, part_stands, part_is}
+use Rattle.pa_image.proofs.Cut.{length-part, part_stands, part_is}
 use Rattle.pa_image.proofs.Words.{words_stand, words_again, length-numbers4}
 
 abbrev pub image_with : Role → List ℕ → List ℕ → List ℕ → ℕ → List ℕ → List Mark → List (List ℕ) → List Fix → Image

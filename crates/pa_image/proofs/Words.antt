@@ -1,7 +1,7 @@
 -- Words in the bytes of a file.
 use Rattle.std.proofs.Common.{◌≡◌, ℕ, zero, suc, ◌+◌, ◌-◌, ◌*◌, ◌≤◌, ◌<◌, true, eqb, leb, List, [], ◌∷◌, ◌++◌, length, map, None, refl, ap, ◌∙◌, append_assoc, arith}
 use Rattle.std.proofs.lemmas.Bool.{le-leb, eq-eqb}
-use Rattle.pa_layout.specs.Fields.{number, numbers, four, spelled, size_of, wrong_from, AllFit, IsAt}
+use Rattle.pa_layout.specs.Fields.{number, numbers, four, size_of, wrong_from, AllFit, IsAt}
 use Rattle.pa_layout.proofs.Laws.{IsBytes, stand-spelled, length-spelled, Values, values_at}
 use Rattle.pa_image.specs.Bytes.{words_bytes}
 

@@ -1,5 +1,5 @@
 -- The bytes of an image: each part at its place.
-use Rattle.std.specs.Prelude.{◌≡◌, ℕ, ◌+◌, ◌-◌, ◌*◌, ◌/◌, List, [], ◌∷◌, length, take, drop, map}
+use Rattle.std.specs.Prelude.{◌≡◌, ℕ, ◌+◌, ◌-◌, ◌*◌, ◌/◌, List, length, take, drop, map}
 use Rattle.pa_layout.specs.Fields.{four, spelled, AllFit, IsAt}
 use Rattle.pa_layout.specs.Names.{ended}
 use Rattle.pa_macho.specs.declared.header.Role.{Role}

@@ -1,7 +1,6 @@
 -- The first flaw of bytes, part by part.
-use Rattle.std.specs.Prelude.{◌≡◌, ℕ, ◌+◌, ◌-◌, ◌*◌, ◌/◌, List, [], ◌∷◌, length, Option, Some, None}
+use Rattle.std.specs.Prelude.{ℕ, ◌+◌, List, length, Option, Some, None}
 use Rattle.pa_layout.specs.declared.checks.Flaw.{Flaw}
-use Rattle.pa_layout.specs.Fields.{numbers}
 use Rattle.pa_layout.specs.Flaws.{flaw_at, ◌then◌}
 use Rattle.pa_macho.specs.declared.header.Header.{Header}
 use Rattle.pa_macho.specs.declared.places.Places.{Places}

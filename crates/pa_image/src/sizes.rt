@@ -1,9 +1,10 @@
-ghost use Rattle.std.specs.Prelude.{◌≡◌, ◌<◌, ◌^◌, ◌+◌, ◌*◌, ◌↔◌, IsTrue, length};
+ghost use Rattle.std.specs.Prelude.{◌≡◌, ◌<◌, ◌^◌, ◌+◌, ◌*◌, ◌↔◌, IsTrue, length, map};
+ghost use Rattle.pa_layout.specs.Fields.{AllFit, four};
 ghost use Rattle.pa_layout.specs.Names.{ended};
 ghost use Rattle.pa_symbols.specs.Symbols.{names_of};
 ghost use Rattle.pa_image.specs.Bytes as spec;
 ghost use Rattle.pa_image.specs.Bytes.{sections_of, header_of};
-ghost use Rattle.pa_image.specs.Writing.{SectionsSmall, HeaderSmall};
+ghost use Rattle.pa_image.specs.Writing.{AreBytes, AreWords, SectionsSmall, HeaderSmall};
 
 use crate::image::Image;
 use crate::parts::data_at;
@@ -50,14 +51,31 @@ fn fixups_size(at: DataAt, imports: &[Name]) -> u128
     names + 1 + names_size(imports)
 }
 
+/// How many bytes the words have, each of which has room in four.
+fn words_size(words: &[u32]) -> u128
+    ensures size { result ≡ 4 * length words.now }
+    ensures fit { AllFit (map four words.now) }
+{
+    4 * words.len() as u128
+}
+
+/// How many bytes there are, each of which is one.
+fn bytes_size(bytes: &[u8]) -> u128
+    ensures size { result ≡ length bytes.now }
+    ensures fit { AreBytes bytes.now }
+{
+    bytes.len() as u128
+}
+
 /// The sections' sizes have room in four bytes.
 fn are_sections_small(image: &Image) -> bool
-    ensures { IsTrue result ↔ SectionsSmall image.now }
+    ensures small { IsTrue result ↔ SectionsSmall image.now }
+    ensures words { AreWords image.now }
 {
-    4 * (image.text.len() as u128) < LIMIT
-        && 4 * (image.stubs.len() as u128) < LIMIT
-        && (image.consts.len() as u128) < LIMIT
-        && (image.cells.len() as u128) < LIMIT
+    let text = words_size(image.text.as_slice());
+    let stubs = words_size(image.stubs.as_slice());
+    let cells = bytes_size(image.cells.as_slice());
+    text < LIMIT && stubs < LIMIT && (image.consts.len() as u128) < LIMIT && cells < LIMIT
 }
 
 /// The header of the image's sections alone.
@@ -104,7 +122,8 @@ fn linked_sizes(image: &Image) -> Linked
 
 /// All sizes of the image's header have room in four bytes.
 pub(crate) fn is_small(image: &Image) -> bool
-    ensures { IsTrue result ↔ HeaderSmall image.now }
+    ensures small { IsTrue result ↔ HeaderSmall image.now }
+    ensures words { AreWords image.now }
 {
     if !are_sections_small(image) {
         return false;

@@ -7,7 +7,7 @@ ghost use Rattle.pa_macho.specs.Writing.{HeaderFits};
 ghost use Rattle.pa_image.specs.Bytes as spec;
 ghost use Rattle.pa_image.specs.Bytes.{IsImage, words_bytes};
 ghost use Rattle.pa_image.specs.Writing as written;
-ghost use Rattle.pa_image.specs.Writing.{IsLegal, PartsFit};
+ghost use Rattle.pa_image.specs.Writing.{AreWords, HasBytes, IsLegal, PartsFit};
 
 use crate::image::Image;
 use crate::parts::{data_at, slots_at, text_at};
@@ -35,16 +35,26 @@ fn parts_fit(image: &Image, header: &Header, places: &Places) -> bool
         && legal_marks(image.marks.as_slice(), text_at(header))
 }
 
-/// Some bytes stand for the image.
+/// The header and the parts of the image can be written.
 #[tactic(auto, using(crate::proofs::Small::legal_small, crate::proofs::Small::fits_end))]
-pub fn legal(image: &Image) -> bool
-    ensures { IsTrue result ↔ IsLegal image.now }
+fn fits(image: &Image) -> bool
+    ensures legal { IsTrue result ↔ IsLegal image.now }
+    ensures words { AreWords image.now }
 {
     if !is_small(image) {
         return false;
     }
     let header = header(image);
     header_fits(&header) && parts_fit(image, &header, &header.places())
+}
+
+/// Some bytes stand for the image.
+pub fn legal(image: &Image) -> bool
+    // By bytes, and part by part.
+    ensures bytes { IsTrue result ↔ HasBytes image.now }
+    ensures parts { IsTrue result ↔ IsLegal image.now }
+{
+    fits(image)
 }
 
 /// Appends words.
@@ -123,8 +133,6 @@ fn write_parts(
     requires places { places.now ≡ places_of header.now }
     requires order { Ordered places.now }
     requires legal { IsLegal image.now }
-    requires text { AllFit (map four image.now.text) }
-    requires stubs { AllFit (map four image.now.stubs) }
     ensures { IfOk result (λ bytes. IsImage image.now bytes.items) }
 {
     let Written { bytes, starts } = write_slots(
@@ -141,22 +149,11 @@ fn write_parts(
     Ok(out)
 }
 
-/// The same, where the words of the image are these.
-#[tactic(auto, using(crate::proofs::Small::legal_small))]
-fn write_words(alloc: Global, image: &Image, text: &[u32], stubs: &[u32]) -> Result<Vec<u8>, Memory>
-    requires legal { IsLegal image.now }
-    requires text { text.now ≡ image.now.text }
-    requires stubs { stubs.now ≡ image.now.stubs }
-    ensures { IfOk result (λ bytes. IsImage image.now bytes.items) }
-{
-    let header = header(image);
-    write_parts(alloc, image, &header, &header.places())
-}
-
 /// The bytes that stand for a legal image.
 pub fn write_image(alloc: Global, image: &Image) -> Result<Vec<u8>, Memory>
     requires { IsLegal image.now }
     ensures { IfOk result (λ bytes. IsImage image.now bytes.items) }
 {
-    write_words(alloc, image, image.text.as_slice(), image.stubs.as_slice())
+    let header = header(image);
+    write_parts(alloc, image, &header, &header.places())
 }

@@ -1,8 +1,7 @@
-use Rattle.std.proofs.Common.{◌≡◌, ◌∙◌, sym, Ok}
-use Rattle.pa_macho.specs.declared.header.Header.{Header}
+use Rattle.std.proofs.Common.{◌≡◌, ◌∙◌}
 use Rattle.pa_image.specs.declared.image.Image.{Image}
 use Rattle.pa_image.specs.Bytes.{header_of}
-use Rattle.pa_image.specs.Reading.{parts_flaw, first_flaw}
+use Rattle.pa_image.specs.Reading.{first_flaw}
 use Rattle.pa_image.proofs.Header.{known, image_found, parts_moved, behind_header, refused_first}
 use Rattle.pa_image.proofs.Whole.{err_flaw, err_only}
 use Rattle.pa_image.proofs.reading.read_image.Goals as goal

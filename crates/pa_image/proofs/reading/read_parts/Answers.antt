@@ -1,4 +1,4 @@
-use Rattle.std.proofs.Common.{◌≡◌, ◌∙◌, ap, refl, sym, List, ℕ, length, None, Some, arith}
+use Rattle.std.proofs.Common.{◌≡◌, ◌∙◌, ap, refl, sym, List, length, None, Some, arith}
 use Rattle.pa_fixups.specs.declared.tables.Fixups.{Fixups}
 use Rattle.pa_fixups.specs.Fixups.{fixups_with}
 use Rattle.pa_object.specs.declared.object.Mark.{Mark}
@@ -7,7 +7,7 @@ use Rattle.pa_slots.specs.Slots.{slots_with, slots_flaw}
 use Rattle.pa_symbols.specs.Reading.{symbols_flaw}
 use Rattle.pa_image.specs.Bytes.{part, slots_at, text_at}
 use Rattle.pa_image.specs.Reading.{symbols_at, parts_flaw}
-use Rattle.pa_image.proofs.Cut.{starts_known, entries_whole}
+use Rattle.pa_image.proofs.Cut.{starts_known}
 use Rattle.pa_image.proofs.Whole.{err_flaw, err_only, fixups_first, slots_first, symbols_first, slots_moved, stands_made, image_only, text_only, stubs_only, consts_only, marks_at, inside_at}
 use Rattle.pa_image.proofs.reading.read_parts.Goals as goal
 

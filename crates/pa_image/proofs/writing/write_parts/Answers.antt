@@ -1,4 +1,4 @@
-use Rattle.std.proofs.Common.{◌∙◌, ◌*◌, ap, ℕ, List, length, arith}
+use Rattle.std.proofs.Common.{◌∙◌, ◌*◌, ap, ℕ, length, arith}
 use Rattle.pa_macho.specs.Layout.{page_count}
 use Rattle.pa_slots.specs.Pages.{page_size}
 use Rattle.pa_image.specs.Bytes.{slots_at}
@@ -32,6 +32,6 @@ put_linkedit-requires-clause-small c = (writable c.args.image.now c.args.header.
 pub returns : goal.returns
 returns c =
     written_made c.args.image.now c.args.header.now c.args.places.now c.in_ok-bytes.field-0.bytes.items c.in_ok-bytes.field-0.starts c.in_ok-out.out.items c.put_text.new.out.items c.extend_from_slice.new.self.items c.put_linkedit.new.out.items
-    c.requires.header c.requires.places c.requires.legal c.requires.text c.requires.stubs (c.in_ok-bytes.ensures.size ∙ ap (λ (n : ℕ). page_size * n) c.pages.ensures) (c.in_ok-bytes.ensures.pages ∙ c.pages.ensures) c.in_ok-bytes.ensures.starts
+    c.requires.header c.requires.places c.requires.legal (c.in_ok-bytes.ensures.size ∙ ap (λ (n : ℕ). page_size * n) c.pages.ensures) (c.in_ok-bytes.ensures.pages ∙ c.pages.ensures) c.in_ok-bytes.ensures.starts
     (held_moved c.slots_at.result (slots_at c.args.header.now c.args.places.now (length c.args.image.now.imports)) c.in_ok-bytes.field-0.starts c.in_ok-bytes.field-0.bytes.items c.as_slice.result.now c.args.image.now.cells c.as_slice-2.result.now c.args.image.now.fixes (c.slots_at.ensures ∙ ap (slots_at c.args.header.now c.args.places.now) c.len.ensures) c.as_slice.ensures c.as_slice-2.ensures c.in_ok-bytes.ensures.held)
     c.in_ok-out.ensures.bytes_are c.in_ok-put_text.ensures (rw c.deref.ensures.value at c.in_ok-extend_from_slice.ensures.items) (rw c.as_slice-3.ensures at c.in_ok-put_linkedit.ensures)
