@@ -28,11 +28,12 @@ use Rattle.pa_fixups.specs.declared.tables.DataAt.{DataAt}
 use Rattle.pa_image.specs.Bytes.{header_of, sections_of, fixups_size, data_at, slots_at, text_at}
 use Rattle.pa_image.proofs.Header.{sections_same, data_same}
 use Rattle.pa_image.specs.Small.{IsSmall}
-use Rattle.pa_image.specs.Writing.{PartsFit, IsLegal}
+use Rattle.pa_image.specs.Writing.{AreWords, PartsFit, IsLegal}
 use Rattle.pa_straight.specs.declared.source.Straight.{Straight}
 use Rattle.pa_straight.specs.Source.{IsSource}
-use Rattle.pa_straight_image.specs.Code.{text, calls, epilogue, gap_behind, stub_place}
+use Rattle.pa_straight_image.specs.Code.{text, calls, epilogue, gap_behind, stub, stub_place, pages_between}
 use Rattle.pa_straight_image.specs.Image.{image_of, imports_of, once, putchar_slot, main_mark}
+use Rattle.pa_straight_image.proofs.Fits.{words_fit, text-InRange, stub-InRange}
 use Rattle.pa_straight_image.proofs.Whole.{length-calls}
 
 pub length-text : (s : Straight) → length (text s) ≡ 3 * length s.prints + 11
@@ -263,11 +264,21 @@ parts_with (n ∷ ns) returns few = record { imports = imports_with (n ∷ ns) r
 pub image_places : (s : Straight) → IsSource s → places_of (header_of (image_of s)) ≡ places_with (length s.prints)
 image_places s source = ap places_of (header s.prints s.returns source.few) ∙ places (length s.prints) source.few
 
+words_with : (prints : List ℕ) (returns : ℕ) → IsSource (program prints returns) → AreWords (image_of (program prints returns))
+unfolding image_of
+words_with [] returns source = record { text = words_fit (text (program [] returns)) (text-InRange (program [] returns) source); stubs = tt; cells = λ i. omega arith }
+words_with (n ∷ ns) returns source = record {
+  text = words_fit (text (program (n ∷ ns) returns)) (text-InRange (program (n ∷ ns) returns) source);
+  stubs = words_fit (stub (pages_between (suc (length ns)))) (stub-InRange (suc (length ns)));
+  cells = λ i. omega arith;
+}
+
 pub legal : (s : Straight) → IsSource s → IsLegal (image_of s)
 legal s source =
     let h = header s.prints s.returns source.few in
     let p = image_places s source in
     record {
+      words = words_with s.prints s.returns source;
       header = subst (λ (x : Header). FieldsFit x (places_of x)) (sym h) (subst (λ (y : Places). FieldsFit (header_with (length s.prints)) y) (sym (places (length s.prints) source.few)) (fits_with (length s.prints) source.few));
       parts = subst (λ (y : Places). PartsFit (image_of s) (header_of (image_of s)) y) (sym p)
           (subst (λ (x : Header). PartsFit (image_of s) x (places_with (length s.prints))) (sym h) (parts_with s.prints s.returns source.few));
