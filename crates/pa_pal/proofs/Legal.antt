@@ -1,5 +1,5 @@
 -- The runtime image is legal and small.
-use Rattle.std.proofs.Common.{◌≡◌, ◌≢◌, ◌<◌, [], ◌∷◌, length, refl, sym, ap, subst, ◌∙◌, arith, codes}
+use Rattle.std.proofs.Common.{◌≡◌, ℕ, List, ◌≢◌, ◌<◌, [], ◌∷◌, length, refl, sym, ap, subst, ◌∙◌, arith, codes}
 use Rattle.std.specs.Str.{bytes_eq}
 use Rattle.std.proofs.lemmas.Cmp.{nat_list_eq_equiv}
 use Rattle.std.proofs.lemmas.List.Elements.{All-from_recursion}
@@ -21,9 +21,10 @@ use Rattle.pa_object.specs.Linkable.{Ascends}
 use Rattle.pa_symbols.specs.Symbols.{AreLegal, entries}
 use Rattle.pa_symbols.proofs.Distinct.{no_names}
 use Rattle.pa_image.specs.Bytes.{header_of, data_at, text_at}
+use Rattle.pa_image.specs.Places.{exported}
 use Rattle.pa_image.specs.Small.{IsSmall}
 use Rattle.pa_image.specs.Writing.{AreWords, PartsFit, IsLegal}
-use Rattle.pa_pal.specs.Pal.{pal, marks}
+use Rattle.pa_pal.specs.Pal.{pal, marks, exports}
 
 -- ---- the header and the places
 
@@ -134,3 +135,9 @@ legal = record {
 
 pub small : IsSmall pal
 small = let end = ap (λ (y : Places). y.end) pal_places in omega arith
+
+-- ---- what it exports
+
+pub pal_exports : (name : List ℕ) → exported (fields.base_of Library) pal.marks name ≡ exports name
+unfolding pal
+pal_exports name = refl

@@ -1,6 +1,7 @@
 -- The runtime image, which programs bind to (mach-o/loader.h; Procedure Call Standard for the Arm 64-bit Architecture: the
 -- first argument and the result stand in x0).
-use Rattle.std.specs.Prelude.{ℕ, List, [], ◌∷◌, ◌++◌, map, true, codes}
+use Rattle.std.specs.Prelude.{ℕ, List, [], ◌∷◌, ◌++◌, map, true, if◌then◌else◌, Option, Some, None, codes}
+use Rattle.std.specs.Str.{bytes_eq}
 use Rattle.pa_a64.specs.declared.instr.Instr.{Instr}
 use Rattle.pa_a64.specs.declared.instr.Instr.TheVariants.{Stack, Exception}
 use Rattle.pa_a64.specs.declared.instr.StackOp.TheVariants.{Retab, Pacibsp}
@@ -22,7 +23,8 @@ putchar = service 1
 abbrev pub getchar : List Instr
 getchar = service 2
 
-abbrev public_mark : List ℕ → ℕ → Mark
+-- a function that other images see
+abbrev pub public_mark : List ℕ → ℕ → Mark
 public_mark name at = record { name = name; at = at; public = true }
 
 abbrev pub marks : List Mark
@@ -41,3 +43,7 @@ pal = record {
   imports = [];
   fixes = [];
 }
+
+-- the functions that it exports, and where they lie in memory
+abbrev pub exports : List ℕ → Option ℕ
+exports name = if bytes_eq name (codes "_putchar") then Some 0x180000400 else (if bytes_eq name (codes "_getchar") then Some 0x18000040c else None)

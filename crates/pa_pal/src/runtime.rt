@@ -1,6 +1,8 @@
-ghost use Rattle.std.specs.Prelude.{◌≡◌, ◌<◌, ◌^◌, ◌++◌, [], map, All, IfOk, OnOk};
+ghost use Rattle.std.specs.Prelude.{◌≡◌, ◌++◌, ℕ, List, [], map, All, IfOk, OnOk};
 ghost use Rattle.pa_a64.specs.Decoding.{InRange, encoded};
 ghost use Rattle.pa_macho.specs.declared.header.Role.TheVariants as role;
+ghost use Rattle.pa_macho.specs.Layout.{base_of};
+ghost use Rattle.pa_image.specs.Places.{exported};
 ghost use Rattle.pa_image.specs.Small.{IsSmall};
 ghost use Rattle.pa_image.specs.Writing.{IsLegal};
 ghost use Rattle.pa_pal.specs.Pal as spec;
@@ -55,25 +57,29 @@ fn text(alloc: Global) -> Result<Words, Memory>
     Ok(words)
 }
 
+/// A function that other images see, so many words behind the beginning.
+fn public_mark(alloc: Global, name: &[u8], at: u32) -> Result<Mark, Memory>
+    ensures { IfOk result (λ mark. mark ≡ spec.public_mark name.now at) }
+{
+    Ok(Mark {
+        name: Name::from_slice(alloc, name)?,
+        at,
+        public: true,
+    })
+}
+
 fn marks(alloc: Global) -> Result<Marks, Memory>
     ensures { IfOk result (λ marks. marks ≡ spec.marks) }
 {
     let mut marks = Marks::new(alloc);
-    marks.push(Mark {
-        name: Name::from_slice(alloc, b"_putchar")?,
-        at: 0,
-        public: true,
-    })?;
-    marks.push(Mark {
-        name: Name::from_slice(alloc, b"_getchar")?,
-        at: 3,
-        public: true,
-    })?;
+    marks.push(public_mark(alloc, b"_putchar", 0)?)?;
+    marks.push(public_mark(alloc, b"_getchar", 3)?)?;
     Ok(marks)
 }
 
 /// The runtime image, with the functions `_putchar`, which prints the low byte of its argument and gives that byte, and
-/// `_getchar`, which gives the next byte of the input, or -1. It imports nothing and has no slots.
+/// `_getchar`, which gives the next byte of the input, or -1. It imports nothing and has no slots. It answers `Memory` where
+/// memory is wanting.
 #[tactic(auto, unfolding(crate::specs::Pal::pal))]
 pub fn pal(alloc: Global) -> Result<Image, Memory>
     ensures value { IfOk result (λ image. image ≡ spec.pal) }
@@ -82,6 +88,9 @@ pub fn pal(alloc: Global) -> Result<Image, Memory>
     ensures library { IfOk result (λ image. image.role ≡ role.Library) }
     ensures no_imports { IfOk result (λ image. image.imports ≡ []) }
     ensures no_fixes { IfOk result (λ image. image.fixes ≡ []) }
+
+    // The two functions are exported, and nothing else is.
+    ensures exports { IfOk result (λ image. (name : List ℕ) → exported (base_of role.Library) image.marks name ≡ spec.exports name) }
 {
     Ok(Image {
         role: Role::Library,
