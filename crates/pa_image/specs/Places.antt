@@ -12,7 +12,6 @@ use Rattle.pa_a64.specs.declared.instr.BranchAuthenticatedOp.{BranchAuthenticate
 use Rattle.pa_a64.specs.declared.instr.BranchAuthenticatedOp.TheVariants.{Braa, Blraa, Blrab}
 use Rattle.pa_a64.specs.Decoding.{decoded}
 use Rattle.pa_macho.specs.declared.header.Role.{Role}
-use Rattle.pa_macho.specs.declared.header.Role.TheVariants.{Main, Library}
 use Rattle.pa_macho.specs.Layout.{base_of, places_of}
 use Rattle.pa_object.specs.declared.object.Mark.{Mark}
 use Rattle.pa_image.specs.declared.image.Image.{Image}
@@ -20,13 +19,9 @@ use Rattle.pa_image.specs.Bytes.{header_of}
 
 -- ---- where an image lies
 
--- how far an image is moved from where its file says: a program by the slide in pages, a library not at all
-abbrev pub shift_of : Role → (slide : ℕ) → ℕ
-shift_of Main slide = 0x4000 * slide
-shift_of Library slide = 0
-
+-- the address of the first byte of an image that is moved so many pages up from where its file says
 abbrev pub base_at : Role → (slide : ℕ) → ℕ
-base_at role slide = base_of role + shift_of role slide
+base_at role slide = base_of role + 0x4000 * slide
 
 -- an image and the address of its first byte
 pub record Mapped : Type 0 where

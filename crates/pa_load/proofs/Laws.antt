@@ -9,7 +9,7 @@ use Rattle.pa_macho.specs.declared.header.Role.TheVariants.{Library}
 use Rattle.pa_macho.specs.Layout.{places_of}
 use Rattle.pa_macho.proofs.Facts.{spans}
 use Rattle.pa_fixups.specs.declared.kind.Fix.{Fix}
-use Rattle.pa_mem.specs.Memory.{Region, Right, Read, has, allowed, load, fetch, all_apart, write_xor_run, region_of}
+use Rattle.pa_mem.specs.Memory.{Region, Right, Read, Write, has, allowed, load, fetch, all_apart, write_xor_run, region_of}
 use Rattle.pa_mem.proofs.Apart as mem
 use Rattle.pa_image.specs.declared.image.Image.{Image}
 use Rattle.pa_image.specs.Bytes.{header_of, part, slots_at}
@@ -38,18 +38,14 @@ pub record AreLoadable (main runtime : Image) : Type 0 where
 pub one_loaded : (code : Code) (main runtime : Image) (slide : ℕ) (state other : State) → IsLoaded code main runtime slide state → IsLoaded code main runtime slide other → state ≡ other
 one_loaded code main runtime slide state other i j = i.state_is ∙ sym j.state_is
 
--- the runtime image is not moved
-pub both_are : (main runtime : Image) (slide : ℕ) → runtime.role ≡ Library → both main runtime slide ≡ mapped main slide ∷ mapped runtime 0 ∷ []
-both_are main runtime slide e = ap (λ (n : ℕ). mapped main slide ∷ record { base = n; image = runtime } ∷ []) (ap (λ (r : Role). base_at r slide) e ∙ sym (ap (λ (r : Role). base_at r 0) e))
-
 -- ---- where things lie
 
 record Bases (main runtime : Image) (slide : ℕ) : Type 0 where
   pub main_base : base_at main.role slide ≡ 0x100000000 + 0x4000 * slide
-  pub runtime_base : base_at runtime.role slide ≡ 0x180000000
+  pub runtime_base : base_at runtime.role 0 ≡ 0x180000000
 
 bases : (code : Code) (main runtime : Image) (slide : ℕ) (state : State) → IsLoaded code main runtime slide state → Bases main runtime slide
-bases code main runtime slide state i = record { main_base = ap (λ (r : Role). base_at r slide) i.program; runtime_base = ap (λ (r : Role). base_at r slide) i.library }
+bases code main runtime slide state i = record { main_base = ap (λ (r : Role). base_at r slide) i.program; runtime_base = ap (λ (r : Role). base_at r 0) i.library }
 
 -- the bytes of __DATA with its slots filled
 abbrev contents_of : Code → Image → Image → ℕ → List ℕ
@@ -115,7 +111,7 @@ the_stack : (code : Code) (main runtime : Image) (slide : ℕ) → mem.IsAt (loa
 unfolding loaded
 the_stack code main runtime slide = record { within = omega arith; found = refl }
 
-runtime_text : (code : Code) (main runtime : Image) (slide : ℕ) → mem.IsAt (loaded code main runtime slide).memory 4 (region_of (base_at runtime.role slide) (part 0 (places_of (header_of runtime)).got (bytes_of runtime)) text_rights)
+runtime_text : (code : Code) (main runtime : Image) (slide : ℕ) → mem.IsAt (loaded code main runtime slide).memory 4 (region_of (base_at runtime.role 0) (part 0 (places_of (header_of runtime)).got (bytes_of runtime)) text_rights)
 unfolding loaded
 runtime_text code main runtime slide = record { within = omega arith; found = refl }
 
@@ -128,9 +124,9 @@ stack_allowed code main runtime slide state i right at n may low high =
 
 -- ---- slots
 
--- a slot may be read, and holds its value
+-- a slot holds its value, and may be read and written
 pub slot_loaded : (code : Code) (main runtime : Image) (slide : ℕ) (state : State) → AreLoadable main runtime → IsLoaded code main runtime slide state → (before : List Fix) (fix : Fix) (after : List Fix) → main.fixes ≡ before ++ fix ∷ after
-    → (load 8 state.memory (slot_address (filling main runtime slide) fix) ≡ slot_value code (filling main runtime slide) fix) × (allowed Read state.memory (slot_address (filling main runtime slide) fix) 8 ≡ true)
+    → (load 8 state.memory (slot_address (filling main runtime slide) fix) ≡ slot_value code (filling main runtime slide) fix) × (allowed Read state.memory (slot_address (filling main runtime slide) fix) 8 ≡ true) × (allowed Write state.memory (slot_address (filling main runtime slide) fix) 8 ≡ true)
 slot_loaded code main runtime slide state l i before fix after e =
     let p = places_of (header_of main) in
     let f = filling main runtime slide in
@@ -155,6 +151,8 @@ slot_loaded code main runtime slide state l i before fix after e =
           ∙ load_here 8 memory 1 region (slot_address f fix) fix.at here (memory_apart code main runtime slide state l i) refl (omega arith) ∙ held,
       ap (λ (m : List Region). allowed Read m (slot_address f fix) 8) same
           ∙ allowed_here Read memory 1 region (slot_address f fix) 8 here (omega arith) (omega arith) refl,
+      ap (λ (m : List Region). allowed Write m (slot_address f fix) 8) same
+          ∙ allowed_here Write memory 1 region (slot_address f fix) 8 here (omega arith) (omega arith) refl,
     )
 
 -- ---- code
@@ -199,22 +197,22 @@ word_fetched code main runtime slide state l i at w e =
     from_main : (word_from (text_base (base_at main.role slide)) main.text at ≡ Some w) ⊎ (word_from (base_at main.role slide + (places_of (header_of main)).stubs) main.stubs at ≡ Some w) → fetch memory at ≡ Some w
     from_main = let b = (bases code main runtime slide state i).main_base in image_fetched main memory 0 (base_at main.role slide) at w l.main_legal (memory_apart code main runtime slide state l i) (omega arith) (main_text code main runtime slide)
 
-    from_runtime : (word_from (text_base (base_at runtime.role slide)) runtime.text at ≡ Some w) ⊎ (word_from (base_at runtime.role slide + (places_of (header_of runtime)).stubs) runtime.stubs at ≡ Some w) → fetch memory at ≡ Some w
-    from_runtime = let b = (bases code main runtime slide state i).runtime_base in image_fetched runtime memory 4 (base_at runtime.role slide) at w l.runtime_legal (memory_apart code main runtime slide state l i) (omega arith) (runtime_text code main runtime slide)
+    from_runtime : (word_from (text_base (base_at runtime.role 0)) runtime.text at ≡ Some w) ⊎ (word_from (base_at runtime.role 0 + (places_of (header_of runtime)).stubs) runtime.stubs at ≡ Some w) → fetch memory at ≡ Some w
+    from_runtime = let b = (bases code main runtime slide state i).runtime_base in image_fetched runtime memory 4 (base_at runtime.role 0) at w l.runtime_legal (memory_apart code main runtime slide state l i) (omega arith) (runtime_text code main runtime slide)
 
     runtime_stubs : Option ℕ
-    runtime_stubs = option_or (word_from (base_at runtime.role slide + (places_of (header_of runtime)).stubs) runtime.stubs at) None
+    runtime_stubs = option_or (word_from (base_at runtime.role 0 + (places_of (header_of runtime)).stubs) runtime.stubs at) None
 
-    in_last : (word_from (base_at runtime.role slide + (places_of (header_of runtime)).stubs) runtime.stubs at ≡ Some w) ⊎ (None ≡ Some w) → fetch memory at ≡ Some w
+    in_last : (word_from (base_at runtime.role 0 + (places_of (header_of runtime)).stubs) runtime.stubs at ≡ Some w) ⊎ (None ≡ Some w) → fetch memory at ≡ Some w
     in_last (inl e) = from_runtime (inr e)
     in_last (inr e) = cc
 
-    in_third : (word_from (text_base (base_at runtime.role slide)) runtime.text at ≡ Some w) ⊎ (runtime_stubs ≡ Some w) → fetch memory at ≡ Some w
+    in_third : (word_from (text_base (base_at runtime.role 0)) runtime.text at ≡ Some w) ⊎ (runtime_stubs ≡ Some w) → fetch memory at ≡ Some w
     in_third (inl e) = from_runtime (inl e)
     in_third (inr e) = in_last (or_some _ _ w e)
 
     runtime_words : Option ℕ
-    runtime_words = option_or (word_from (text_base (base_at runtime.role slide)) runtime.text at) runtime_stubs
+    runtime_words = option_or (word_from (text_base (base_at runtime.role 0)) runtime.text at) runtime_stubs
 
     in_second : (word_from (base_at main.role slide + (places_of (header_of main)).stubs) main.stubs at ≡ Some w) ⊎ (runtime_words ≡ Some w) → fetch memory at ≡ Some w
     in_second (inl e) = from_main (inr e)

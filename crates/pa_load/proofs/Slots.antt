@@ -21,7 +21,7 @@ use Rattle.pa_slots.specs.Pages.{page_size, cells_from, bounds_of, AreRising}
 use Rattle.pa_slots.specs.Writing.{page_of, EachFits}
 use Rattle.pa_image.specs.declared.image.Image.{Image}
 use Rattle.pa_image.specs.Bytes.{header_of, slots_at}
-use Rattle.pa_image.specs.Places.{function_at, mark_address, text_base, base_at, shift_of}
+use Rattle.pa_image.specs.Places.{function_at, mark_address, text_base, base_at}
 use Rattle.pa_image.specs.Small.{IsSmall}
 use Rattle.pa_image.specs.Writing.{IsLegal}
 use Rattle.pa_image.proofs.Header.{cells_place}
@@ -143,14 +143,13 @@ pointer_fits main runtime slide at (Rebase target high8) page role s legal small
     let p = and_parts (leb at.base target) (leb (target - at.base) at.size) t in
     let low : at.base ≤ target = leb-true at.base target p.0 in
     let high : target - at.base ≤ at.size = leb-true (target - at.base) at.size p.1 in
-    let shift : shift_of main.role slide ≡ 0x4000 * slide = ap (λ r. shift_of r slide) role in
     omega arith
 pointer_fits main runtime slide at (Bind ordinal addend) page role s legal small found base size imports o t =
     let lt : ordinal < at.imports = ltb-true ordinal at.imports o in
     let len = length-import_addresses main runtime in
     (omega arith, import_far runtime (get_or main.imports ordinal []) (slice_index (import_addresses main runtime) ordinal) legal small (import_found main runtime ordinal found (omega arith)))
 pointer_fits main runtime slide at (AuthRebase target sig) page role s legal small found base size imports o t =
-    let b : base_at main.role slide ≡ base_of Main + 0x4000 * slide = ap (λ r. base_at r slide) role in
+    let b : base_of main.role ≡ base_of Main = ap base_of role in
     omega arith
 pointer_fits main runtime slide at (AuthBind ordinal sig) page role s legal small found base size imports o t =
     let lt : ordinal < at.imports = ltb-true ordinal at.imports o in

@@ -11,7 +11,7 @@ use Rattle.pa_macho.proofs.Laws.{header_ends}
 use Rattle.pa_mem.specs.Memory.{Region, write_xor_run}
 use Rattle.pa_image.specs.declared.image.Image.{Image}
 use Rattle.pa_image.specs.Bytes.{header_of, part}
-use Rattle.pa_image.specs.Places.{base_at, shift_of, text_base}
+use Rattle.pa_image.specs.Places.{base_at, text_base}
 use Rattle.pa_image.specs.Writing.{IsLegal, bytes_of}
 use Rattle.pa_image.proofs.Cut.{length-part}
 use Rattle.pa_image.proofs.Laws.{legal_stands, ordered}
@@ -131,8 +131,8 @@ state_with memory log pc sp = record { memory = memory; log = log; pc = pc; sp =
 states_are : (m1 m2 : List Region) (l1 l2 : Log) (p1 p2 s1 s2 : ℕ) → m1 ≡ m2 → l1 ≡ l2 → p1 ≡ p2 → s1 ≡ s2 → state_with m1 l1 p1 s1 ≡ state_with m2 l2 p2 s2
 states_are m1 m2 l1 l2 p1 p2 s1 s2 a b c d = cc
 
-base_library : (runtime : Image) (slide : ℕ) → runtime.role ≡ Library → base_of Library ≡ base_at runtime.role slide
-base_library runtime slide e = sym (ap (λ (r : Role). base_at r slide) e)
+base_library : (runtime : Image) → runtime.role ≡ Library → base_of Library ≡ base_at runtime.role 0
+base_library runtime e = sym (ap (λ (r : Role). base_at r 0) e)
 
 pub memory_is : (code : Code) (main runtime : Image) (slide : ℕ) → runtime.role ≡ Library
     → memory_of (base_at main.role slide) (places_of (header_of main)) (program_of code (filling main runtime slide) main (places_of (header_of main))) runtime ≡ (loaded code main runtime slide).memory
@@ -140,7 +140,7 @@ unfolding loaded
 memory_is code main runtime slide e =
     let p = places_of (header_of main) in
     let program = program_of code (filling main runtime slide) main p in
-    ap (λ (n : ℕ). let x = places_of (header_of runtime) in segments (base_at main.role slide) p program.text program.contents program.linkedit ++ stack ∷ segments n x (segments_of x (bytes_of runtime)).text (segments_of x (bytes_of runtime)).contents (segments_of x (bytes_of runtime)).linkedit) (base_library runtime slide e)
+    ap (λ (n : ℕ). let x = places_of (header_of runtime) in segments (base_at main.role slide) p program.text program.contents program.linkedit ++ stack ∷ segments n x (segments_of x (bytes_of runtime)).text (segments_of x (bytes_of runtime)).contents (segments_of x (bytes_of runtime)).linkedit) (base_library runtime e)
 
 pub others_are : (code : Code) (main runtime : Image) (slide : ℕ) → ((loaded code main runtime slide).log ≡ filling_log code (filling main runtime slide) main.fixes) × ((loaded code main runtime slide).pc ≡ text_base (base_at main.role slide)) × ((loaded code main runtime slide).sp ≡ stack_base + stack_size)
 unfolding loaded
@@ -169,7 +169,6 @@ filling_with shift base slots imports = record { shift = shift; base = base; slo
 pub placed_is : (main runtime : Image) (slide shift base slots : ℕ) (imports : List ℕ) (p : Places) → main.role ≡ Main → p ≡ places_of (header_of main) → shift ≡ 0x4000 * slide → base ≡ base_of main.role + shift → slots ≡ base + p.got → imports ≡ import_addresses main runtime
     → record { shift = shift; base = base; slots_base = slots; imports = imports } ≡ filling main runtime slide
 placed_is main runtime slide shift base slots imports p role ep es eb el ei =
-    let s : shift ≡ shift_of main.role slide = es ∙ sym (ap (λ (r : Role). shift_of r slide) role) in
-    let b : base ≡ base_at main.role slide = eb ∙ ap (λ (n : ℕ). base_of main.role + n) s in
+    let b : base ≡ base_at main.role slide = eb ∙ ap (λ (n : ℕ). base_of main.role + n) es in
     let g : slots ≡ base_at main.role slide + (places_of (header_of main)).got = el ∙ ap (λ (n : ℕ). n + p.got) b ∙ ap (λ (q : Places). base_at main.role slide + q.got) ep in
     cc

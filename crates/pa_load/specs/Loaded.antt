@@ -1,5 +1,5 @@
 -- The state in which a program begins: it and its runtime image in memory, its slots filled and signed.
-use Rattle.std.specs.Prelude.{◌≡◌, ℕ, ◌+◌, ◌-◌, ◌<◌, ◌^◌, true, false, List, [], ◌∷◌, ◌++◌, length, map, replicate, position, is_none, Option, None, unwrap_or}
+use Rattle.std.specs.Prelude.{◌≡◌, ℕ, ◌+◌, ◌-◌, ◌*◌, ◌<◌, ◌^◌, true, false, List, [], ◌∷◌, ◌++◌, length, map, replicate, position, is_none, Option, None, unwrap_or}
 use Rattle.pa_pac.specs.Log.{Log}
 use Rattle.pa_pac.specs.Signing.{Code}
 use Rattle.pa_macho.specs.declared.header.Role.TheVariants.{Main, Library}
@@ -10,7 +10,7 @@ use Rattle.pa_mem.specs.Memory.{Region, region_of}
 use Rattle.pa_object.specs.Machine.{Machine, begun}
 use Rattle.pa_image.specs.declared.image.Image.{Image}
 use Rattle.pa_image.specs.Bytes.{header_of, part}
-use Rattle.pa_image.specs.Places.{base_at, shift_of, data_base, exported, mapped, text_base, Mapped}
+use Rattle.pa_image.specs.Places.{base_at, data_base, exported, mapped, text_base, Mapped}
 use Rattle.pa_processor.specs.declared.loaded.Loaded.{Loaded}
 use Rattle.pa_image.specs.Writing.{bytes_of}
 use Rattle.pa_load.specs.Filling.{Filling, filled, filling_log}
@@ -45,7 +45,7 @@ import_addresses main runtime = map (λ name. unwrap_or (import_address runtime 
 -- what the slots of the program are filled from
 abbrev pub filling : (main runtime : Image) → (slide : ℕ) → Filling
 filling main runtime slide = record {
-  shift = shift_of main.role slide;
+  shift = 0x4000 * slide;
   base = base_at main.role slide;
   slots_base = data_base (mapped main slide);
   imports = import_addresses main runtime;
@@ -94,9 +94,9 @@ image_regions m fill =
     let bytes = bytes_of m.image in
     segments m.base p (part 0 p.got bytes) (fill (part p.got p.linkedit bytes)) (padded (part p.linkedit p.end bytes))
 
--- both images where they lie
+-- both images where they lie: the program moved by the slide, the runtime image where its file says
 abbrev pub both : (main runtime : Image) → (slide : ℕ) → List Mapped
-both main runtime slide = mapped main slide ∷ mapped runtime slide ∷ []
+both main runtime slide = mapped main slide ∷ mapped runtime 0 ∷ []
 
 -- ---- the state
 
@@ -107,7 +107,7 @@ loaded code main runtime slide =
     record {
       memory =
           image_regions (mapped main slide) (filled code fills main.fixes)
-          ++ stack ∷ image_regions (mapped runtime slide) (λ contents. contents);
+          ++ stack ∷ image_regions (mapped runtime 0) (λ contents. contents);
       log = filling_log code fills main.fixes;
       pc = text_base (base_at main.role slide);
       sp = stack_base + stack_size;
