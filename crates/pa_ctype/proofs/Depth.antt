@@ -1,17 +1,16 @@
 -- A type that has a layout has it where structs lie in one another as deep as there are structs. Each step of depth lays
 -- one struct more, or no further step lays any.
-use Rattle.std.proofs.Common.{◌≡◌, ℕ, zero, suc, ◌+◌, ◌-◌, ◌≤◌, ◌<◌, length, Bool, true, false, cond, not, ◌&&◌, List, [], ◌∷◌, Option, Some, None, refl, sym, ◌∙◌, ap, subst, arith, ◌⊎◌, inl, inr, zero-add, suc-add}
+use Rattle.std.proofs.Common.{◌≡◌, ℕ, zero, suc, ◌+◌, ◌-◌, ◌≤◌, ◌<◌, length, Bool, true, false, cond, List, [], ◌∷◌, Option, Some, None, refl, sym, ◌∙◌, ap, subst, arith, ◌⊎◌, inl, inr, zero-add, suc-add}
 use Rattle.std.specs.Option.{option_and_then}
 use Rattle.std.specs.Int.{next_multiple_of}
 use Rattle.std.specs.Str.{bytes_eq}
-use Rattle.std.specs.List.{list_all}
 use Rattle.std.proofs.lemmas.Bool.{cases_lt}
 use Rattle.std.proofs.lemmas.Option.{slice_get_past}
 use Rattle.pa_ctype.specs.declared.ctype.Layout.{Layout}
 use Rattle.pa_ctype.specs.declared.ctype.Member.{Member}
 use Rattle.pa_ctype.specs.Types.{TypeTree}
-use Rattle.pa_ctype.specs.Layouts.{Body, Table, body_of, placed, empty, struct_layout, laid, HasLayout, layout_in, member_from, HasMember, member_of, IsLayoutOf, IsMemberOf}
-use Rattle.pa_ctype.proofs.Laws.{then_some, Keeps, layout_by_keeps, structs_at, structs_keep, laid_suc, laid_deeper}
+use Rattle.pa_ctype.specs.Layouts.{Body, Table, body_of, placed, empty, struct_layout, laid, HasLayout, layout_in, member_from, HasMember, member_of}
+use Rattle.pa_ctype.proofs.Laws.{then_some, same_by_keeps, then_same, Keeps, layout_by_keeps, structs_at, structs_keep, laid_suc, laid_deeper}
 
 -- how many of the first ids have a layout
 abbrev pub has : Option Layout → ℕ
@@ -122,21 +121,16 @@ laid_is depth table t l e = elim (cases_lt depth (length table)) [
       laid_back (depth - length table) (length table) table (stable_end table) t l (subst (λ d. laid d table t ≡ Some l) (sym s) e)
 ]
 
+-- one more step of depth lays no more
+pub laid_end : (table : Table) (t : TypeTree) → laid (suc (length table)) table t ≡ laid (length table) table t
+laid_end table t = same_by_keeps (laid (suc (length table)) table t) (laid (length table) table t) (laid_is (suc (length table)) table t) (laid_suc (length table) table t)
+
 -- the layout of a type is that of the function, and the function's is the type's
 pub layout_is : (table : Table) (t : TypeTree) (l : Layout) → HasLayout table t l → layout_in table t ≡ Some l
 layout_is table t l h = laid_is h.depth table t l h.is_laid
 
 pub layout_has : (table : Table) (t : TypeTree) (l : Layout) → layout_in table t ≡ Some l → HasLayout table t l
 layout_has table t l e = record { depth = length table; is_laid = e }
-
--- what is answered is what the function gives
-pub layout_value : (table : Table) (t : TypeTree) (r : Option Layout) → IsLayoutOf table t r → r ≡ layout_in table t
-layout_value table t (Some l) a = sym (layout_is table t l a)
-layout_value table t None a = by_layout (layout_in table t) refl
-  where
-    by_layout : (o : Option Layout) → layout_in table t ≡ o → None ≡ layout_in table t
-    by_layout None e = sym e
-    by_layout (Some l) e = absurd (a l (layout_has table t l e))
 
 pub member_from_keeps : (lay more : TypeTree → Option Layout) → Keeps lay more → (name : List ℕ) (so_far : Layout) (index : ℕ) (body : Body) (m : Member) → member_from lay name so_far index body ≡ Some m → member_from more name so_far index body ≡ Some m
 unfolding member_from
@@ -158,23 +152,14 @@ member_is table id name m h =
 pub one_member : (table : Table) (id : ℕ) (name : List ℕ) (m other : Member) → HasMember table id name m → HasMember table id name other → m ≡ other
 one_member table id name m other h k = let e : Some m ≡ Some other = sym (member_is table id name m h) ∙ member_is table id name other k in cc
 
-lacks_from : (lay : TypeTree → Option Layout) (name : List ℕ) (so_far : Layout) (index : ℕ) (body : Body) → list_all (λ field. not (bytes_eq field.name name)) body ≡ true → member_from lay name so_far index body ≡ None
-unfolding member_from
-lacks_from lay name so_far index [] e = refl
-lacks_from lay name so_far index (field ∷ body) e =
-    by_test (bytes_eq field.name name) (lay field.of) (λ l. lacks_from lay name (placed so_far l) (index + 1) body) e
-  where
-    by_test : (b : Bool) (o : Option Layout) → ((l : Layout) → list_all (λ field. not (bytes_eq field.name name)) body ≡ true → member_from lay name (placed so_far l) (index + 1) body ≡ None)
-        → (not b && list_all (λ field. not (bytes_eq field.name name)) body) ≡ true
-        → option_and_then (λ l. cond b (Some (record { offset = next_multiple_of so_far.size l.align; index = index })) (member_from lay name (placed so_far l) (index + 1) body)) o ≡ None
-    by_test b None h e = refl
-    by_test true (Some l) h e = cc
-    by_test false (Some l) h e = h l e
+abbrev here : Layout → ℕ → Layout → Option Member
+here so_far index l = Some (record { offset = next_multiple_of so_far.size l.align; index = index })
 
-pub member_value : (table : Table) (id : ℕ) (name : List ℕ) (r : Option Member) → IsMemberOf table id name r → r ≡ member_of table id name
-member_value table id name (Some m) a = sym (member_is table id name m a)
-member_value table id name None a = by_body (body_of table id) refl
-  where
-    by_body : (o : Option Body) → body_of table id ≡ o → None ≡ member_of table id name
-    by_body None e = sym (ap (option_and_then (member_from (laid (length table) table) name empty 0)) e)
-    by_body (Some body) e = sym (ap (option_and_then (member_from (laid (length table) table) name empty 0)) e ∙ lacks_from (laid (length table) table) name empty 0 body (a body e))
+-- where types have the same layouts, a member is at the same place
+pub member_from_same : (lay more : TypeTree → Option Layout) → ((t : TypeTree) → lay t ≡ more t) → (name : List ℕ) (so_far : Layout) (index : ℕ) (body : Body) → member_from lay name so_far index body ≡ member_from more name so_far index body
+unfolding member_from
+member_from_same lay more h name so_far index [] = refl
+member_from_same lay more h name so_far index (field ∷ body) =
+    ap (option_and_then (λ l. cond (bytes_eq field.name name) (here so_far index l) (member_from lay name (placed so_far l) (index + 1) body))) (h field.of)
+    ∙ then_same (λ l. cond (bytes_eq field.name name) (here so_far index l) (member_from lay name (placed so_far l) (index + 1) body)) (λ l. cond (bytes_eq field.name name) (here so_far index l) (member_from more name (placed so_far l) (index + 1) body))
+    (λ l. ap (cond (bytes_eq field.name name) (here so_far index l)) (member_from_same lay more h name (placed so_far l) (index + 1) body)) (more field.of)

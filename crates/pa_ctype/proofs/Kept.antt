@@ -1,45 +1,142 @@
--- Layouts by the layouts that are kept with members.
-use Rattle.std.proofs.Common.{◌≡◌, ℕ, ◌+◌, ◌≤◌, ◌<◌, false, List, [], ◌∷◌, None, refl, arith, nat_le, length}
+-- Layouts by the layouts that are kept with bodies of structs.
+use Rattle.std.proofs.Common.{◌≡◌, ℕ, ◌+◌, ◌≤◌, ◌<◌, false, List, [], ◌∷◌, Option, Some, None, option_map, refl, sym, ◌∙◌, ap, subst, arith, nat_le, length, take, drop, get_or, ◌-◌}
+use Rattle.std.specs.Option.{option_and_then}
 use Rattle.std.specs.Int.{next_multiple_of}
+use Rattle.std.specs.List.{slice_get}
 use Rattle.std.proofs.lemmas.Bool.Decides.{nat_tests}
+use Rattle.std.proofs.lemmas.List.{take_all}
+use Rattle.std.proofs.lemmas.Option.{slice_get-map}
 use Rattle.pa_ctype.specs.declared.ctype.Layout.{Layout}
 use Rattle.pa_ctype.specs.declared.ctype.Held.{Held}
-use Rattle.pa_ctype.specs.Kept.{kept_from, AreFine}
-use Rattle.pa_ctype.specs.Layouts.{small, placed, padded, most_bytes}
+use Rattle.pa_ctype.specs.declared.structs.LaidBody.{LaidBody}
+use Rattle.pa_ctype.specs.Types.{TypeTree, type_tree}
+use Rattle.pa_ctype.specs.Kept.{members_of, kept_body, kept_layout, IsKept, IsFine, AreFine, EndsWithin}
+use Rattle.pa_ctype.specs.Layouts.{Field, Body, body_of, small, placed, padded, most_bytes, members_from, struct_layout, layout_by, laid, layout_in, field_of, fields_of, table_of, IsSoundBody, IsSound}
+use Rattle.pa_ctype.proofs.Laws.{then_some, layout_by_same, members_from_same, structs_at, structs_fine, laid_fine}
+use Rattle.pa_ctype.proofs.Depth.{laid_end}
 
 multiple_at_least : (n align : ℕ) → n ≤ next_multiple_of n align
 multiple_at_least n align = omega arith
 
 -- members only add bytes
-pub kept_at_least : (so_far : Layout) (members : List Held) → so_far.size ≤ (kept_from so_far members).size
-unfolding kept_from
-kept_at_least so_far [] = omega arith
-kept_at_least so_far (held ∷ more) = omega (arith, multiple_at_least so_far.size held.layout.align, kept_at_least (placed so_far held.layout) more)
+pub members_at_least : (lay : TypeTree → Option Layout) (so_far : Layout) (body : Body) (l : Layout) → members_from lay so_far body ≡ Some l → so_far.size ≤ l.size
+unfolding members_from
+members_at_least lay so_far [] l e = let n : so_far.size ≡ l.size = ap (λ x. x.size) (let z : so_far ≡ l = cc in z) in omega arith
+members_at_least lay so_far (field ∷ body) l e =
+    let (k, p, q) = then_some (λ x. members_from lay (placed so_far x) body) (lay field.of) l e in
+    omega (arith, multiple_at_least so_far.size k.align, members_at_least lay (placed so_far k) body l q)
 
 -- where the members so far have too many bytes, so has the struct
-pub too_large : (so_far : Layout) (members : List Held) → most_bytes < so_far.size → padded (kept_from so_far members) ≡ None
-too_large so_far members h =
-    let k : Layout = kept_from so_far members in
-    let a = kept_at_least so_far members in
-    let b = multiple_at_least k.size k.align in
-    over (next_multiple_of k.size k.align) k.align (omega arith)
+pub too_large : (lay : TypeTree → Option Layout) (so_far : Layout) (body : Body) → most_bytes < so_far.size → option_and_then padded (members_from lay so_far body) ≡ None
+too_large lay so_far body h = by_end (members_from lay so_far body) refl
   where
     over : (n align : ℕ) → most_bytes < n → small (record { size = n; align = align }) ≡ None
     over n align h = let e : nat_le n most_bytes ≡ false = grind (arith, nat_tests) in rw e refl
 
--- each member so far has bytes
-pub kept_bytes : (so_far : Layout) (members : List Held) → (kept_from so_far members).size ≤ most_bytes → so_far.size ≤ most_bytes
-kept_bytes so_far members h = omega (arith, kept_at_least so_far members)
+    by_end : (o : Option Layout) → members_from lay so_far body ≡ o → option_and_then padded o ≡ None
+    by_end None e = refl
+    by_end (Some l) e =
+        let a = members_at_least lay so_far body l e in
+        let b = multiple_at_least l.size l.align in
+        over (next_multiple_of l.size l.align) l.align (omega arith)
 
--- one more member has its place within the bytes
-pub place_more : (so_far : Layout) (held : Held) (more : List Held) (index : ℕ) → 1 ≤ held.layout.size → (kept_from (placed so_far held.layout) more).size ≤ most_bytes → index ≤ so_far.size → index + 1 ≤ most_bytes
-place_more so_far held more index s h i = omega (arith, kept_at_least (placed so_far held.layout) more, multiple_at_least so_far.size held.layout.align)
+-- one member less is left
+pub ends_more : (lay : TypeTree → Option Layout) (so_far l : Layout) (field : Field) (body : Body) → EndsWithin lay so_far (field ∷ body) → lay field.of ≡ Some l → EndsWithin lay (placed so_far l) body
+unfolding members_from
+ends_more lay so_far l field body h e = record { end = h.end; ends = sym (ap (option_and_then (λ x. members_from lay (placed so_far x) body)) e) ∙ h.ends; within = h.within }
 
-pub count_more : (so_far l : Layout) (index : ℕ) → 1 ≤ l.size → index ≤ so_far.size → index + 1 ≤ (placed so_far l).size
-count_more so_far l index s i = omega (arith, multiple_at_least so_far.size l.align)
+-- each part of the members has few bytes
+pub ends_few : (lay : TypeTree → Option Layout) (so_far : Layout) (body : Body) → EndsWithin lay so_far body → so_far.size ≤ most_bytes
+ends_few lay so_far body h = let w = h.within in omega (arith, members_at_least lay so_far body h.end h.ends)
 
--- each member that is left has its place within the bytes
-pub place_fits : (so_far : Layout) (index : ℕ) (rest : List Held) → 0 < length rest → AreFine rest → (kept_from so_far rest).size ≤ most_bytes → index ≤ so_far.size → index + 1 ≤ most_bytes
-unfolding AreFine kept_from
-place_fits so_far index [] l s h i = absurd (omega arith)
-place_fits so_far index (held ∷ more) l s h i = place_more so_far held more index s.0.some h i
+-- each member so far has a byte at least, so its place is no more than their bytes
+pub place_more : (so_far l : Layout) (index : ℕ) → IsFine l → index ≤ so_far.size → index + 1 ≤ (placed so_far l).size
+place_more so_far l index f h = let s = f.some in omega (arith, multiple_at_least so_far.size l.align)
+
+-- so the place of each member that is left is below the most bytes
+pub place_fits : (lay : TypeTree → Option Layout) → ((t : TypeTree) (l : Layout) → lay t ≡ Some l → IsFine l) → (so_far : Layout) (index : ℕ) (rest : List Held) → 1 ≤ length rest → EndsWithin lay so_far (fields_of rest) → index ≤ so_far.size → index + 1 ≤ most_bytes
+unfolding members_from
+place_fits lay f so_far index [] n h i = absurd (omega arith)
+place_fits lay f so_far index (held ∷ more) n h i =
+    let (l, p, q) = then_some (λ x. members_from lay (placed so_far x) (fields_of more)) (lay (type_tree held.of)) h.end h.ends in
+    let w = h.within in
+    omega (arith, place_more so_far l index (f (type_tree held.of) l p) i, members_at_least lay (placed so_far l) (fields_of more) h.end q)
+
+pub ends_tail : (lay : TypeTree → Option Layout) (so_far l : Layout) (rest : List Held) (held : Held) (n : ℕ) → 1 ≤ length rest → n ≡ length rest → held ≡ get_or rest 0 held → EndsWithin lay so_far (fields_of rest) → lay (type_tree held.of) ≡ Some l
+    → EndsWithin lay (placed so_far l) (fields_of (take (n - 1) (drop 1 rest)))
+ends_tail lay so_far l [] held n k e at h p = absurd (omega arith)
+ends_tail lay so_far l (first ∷ more) held n k e at h p =
+    let m : n - 1 ≡ length more = omega arith in
+    let a : take (n - 1) more ≡ more = ap (λ n. take n more) m ∙ take_all (length more) more (omega arith) in
+    let q : lay (type_tree first.of) ≡ Some l = sym (ap (λ x. lay (type_tree x.of)) at) ∙ p in
+    subst (λ x. EndsWithin lay (placed so_far l) (fields_of x)) (sym a) (ends_more lay so_far l (field_of first) (fields_of more) h q)
+
+-- the body of a struct, as plain data
+abbrev entry_body : Option (Option LaidBody) → Option Body
+entry_body o = option_and_then (λ body. body) (option_map (option_map fields_of) (option_map (option_map (λ body. body.members)) o))
+
+pub body_at : (bodies : List (Option LaidBody)) (id : ℕ) → body_of (table_of (members_of bodies)) id ≡ entry_body (slice_get bodies id)
+body_at bodies id =
+    ap (option_and_then (λ body. body)) (slice_get-map (option_map fields_of) (members_of bodies) id ∙ ap (option_map (option_map fields_of)) (slice_get-map (option_map (λ body. body.members)) bodies id))
+
+-- what is kept for a struct is its layout
+pub kept_is : (bodies : List (Option LaidBody)) → IsKept bodies → (id : ℕ) → kept_layout bodies id ≡ structs_at (length (table_of (members_of bodies))) (table_of (members_of bodies)) id
+kept_is bodies h id = by_entry (slice_get bodies id) refl
+  where
+    given : (o : Option (Option LaidBody)) → slice_get bodies id ≡ o → structs_at (length (table_of (members_of bodies))) (table_of (members_of bodies)) id ≡ option_and_then (struct_layout (layout_in (table_of (members_of bodies)))) (entry_body o)
+    given o e = ap (option_and_then (struct_layout (layout_in (table_of (members_of bodies))))) (body_at bodies id ∙ ap entry_body e)
+
+    kept : (o : Option (Option LaidBody)) → slice_get bodies id ≡ o → kept_layout bodies id ≡ option_and_then (λ body. body.layout) (option_and_then (λ body. body) o)
+    kept o e = ap (λ o. option_and_then (λ body. body.layout) (option_and_then (λ body. body) o)) e
+
+    by_entry : (o : Option (Option LaidBody)) → slice_get bodies id ≡ o → kept_layout bodies id ≡ structs_at (length (table_of (members_of bodies))) (table_of (members_of bodies)) id
+    by_entry None e = kept None e ∙ sym (given None e)
+    by_entry (Some None) e = kept (Some None) e ∙ sym (given (Some None) e)
+    by_entry (Some (Some body)) e = kept (Some (Some body)) e ∙ (h id body e).layout ∙ sym (given (Some (Some body)) e)
+
+-- so types have the layouts of the definition
+pub layout_kept : (bodies : List (Option LaidBody)) → IsKept bodies → (t : TypeTree) → layout_by (kept_layout bodies) t ≡ layout_in (table_of (members_of bodies)) t
+unfolding laid
+layout_kept bodies h t =
+    layout_by_same (kept_layout bodies) (structs_at (length (table_of (members_of bodies))) (table_of (members_of bodies))) (kept_is bodies h) t
+    ∙ laid_end (table_of (members_of bodies)) t
+
+pub kept_fine : (bodies : List (Option LaidBody)) → IsKept bodies → AreFine (kept_layout bodies)
+kept_fine bodies h id l e =
+    structs_fine (length (table_of (members_of bodies))) (table_of (members_of bodies)) (laid_fine (length (table_of (members_of bodies))) (table_of (members_of bodies))) id l (sym (kept_is bodies h id) ∙ e)
+
+pub ends_same : (lay more : TypeTree → Option Layout) → ((t : TypeTree) → lay t ≡ more t) → (so_far : Layout) (body : Body) → EndsWithin more so_far body → EndsWithin lay so_far body
+ends_same lay more h so_far body k = record { end = k.end; ends = members_from_same lay more h so_far body ∙ k.ends; within = k.within }
+
+-- bodies that are kept are sound
+pub kept_sound : (bodies : List (Option LaidBody)) → IsKept bodies → IsSound (table_of (members_of bodies))
+kept_sound bodies h id body e = by_entry (slice_get bodies id) refl
+  where
+    by_entry : (o : Option (Option LaidBody)) → slice_get bodies id ≡ o → IsSoundBody (table_of (members_of bodies)) body
+    by_entry None f = let z : None ≡ Some body = sym (body_at bodies id ∙ ap entry_body f) ∙ e in cc
+    by_entry (Some None) f = let z : None ≡ Some body = sym (body_at bodies id ∙ ap entry_body f) ∙ e in cc
+    by_entry (Some (Some found)) f =
+        let z : Some (fields_of found.members) ≡ Some body = sym (body_at bodies id ∙ ap entry_body f) ∙ e in
+        let s : fields_of found.members ≡ body = cc in
+        subst (IsSoundBody (table_of (members_of bodies))) s (h id found f).sound
+
+-- the members of a body, as contracts see them
+pub members_at : (bodies : List (Option LaidBody)) (id : ℕ) → option_and_then (λ body. body) (slice_get (members_of bodies) id) ≡ option_map (λ body. body.members) (kept_body bodies id)
+members_at bodies id = ap (option_and_then (λ body. body)) (slice_get-map (option_map (λ body. body.members)) bodies id) ∙ by_entry (slice_get bodies id)
+  where
+    by_entry : (o : Option (Option LaidBody)) → option_and_then (λ body. body) (option_map (option_map (λ body. body.members)) o) ≡ option_map (λ body. body.members) (option_and_then (λ body. body) o)
+    by_entry None = refl
+    by_entry (Some None) = refl
+    by_entry (Some (Some body)) = refl
+
+pub table_body : (members : List (Option (List Held))) (id : ℕ) → body_of (table_of members) id ≡ option_map fields_of (option_and_then (λ body. body) (slice_get members id))
+table_body members id = ap (option_and_then (λ body. body)) (slice_get-map (option_map fields_of) members id) ∙ by_entry (slice_get members id)
+  where
+    by_entry : (o : Option (Option (List Held))) → option_and_then (λ body. body) (option_map (option_map fields_of) o) ≡ option_map fields_of (option_and_then (λ body. body) o)
+    by_entry None = refl
+    by_entry (Some None) = refl
+    by_entry (Some (Some body)) = refl
+
+pub none_kept : (bodies : List (Option LaidBody)) → members_of bodies ≡ [] → bodies ≡ []
+none_kept [] e = refl
+none_kept (x ∷ bodies) e = cc

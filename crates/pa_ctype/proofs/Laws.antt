@@ -5,8 +5,8 @@ use Rattle.std.specs.Int.{next_multiple_of}
 use Rattle.std.proofs.lemmas.Bool.Decides.{nat_tests}
 use Rattle.pa_ctype.specs.declared.ctype.Layout.{Layout}
 use Rattle.pa_ctype.specs.Types.{TypeTree, Of, FormTree, Void, Boolean, Integer, Pointer, Array, Struct, Function}
-use Rattle.pa_ctype.specs.Kept.{IsFine}
-use Rattle.pa_ctype.specs.Layouts.{Field, Body, Table, body_of, small, most_bytes, aligned_to_size, integer_layout, times, placed, empty, padded, members_from, struct_layout, layout_by, form_layout_by, laid, HasOneLayout}
+use Rattle.pa_ctype.specs.Kept.{IsFine, AreFine}
+use Rattle.pa_ctype.specs.Layouts.{Field, Body, Table, body_of, small, most_bytes, aligned_to_size, integer_layout, times, placed, empty, padded, members_from, struct_layout, layout_by, form_layout_by, laid, HasLayout}
 
 -- what a step that may fail came from
 pub then_some : {A B : Type 0} (f : A → Option B) (o : Option A) (b : B) → option_and_then f o ≡ Some b → (a : A) × (o ≡ Some a) × (f a ≡ Some b)
@@ -68,7 +68,7 @@ pub laid_deeper : (depth more : ℕ) (table : Table) → depth ≤ more → Keep
 laid_deeper depth more table h t l e = let s : (more - depth) + depth ≡ more = omega arith in subst (λ d. laid d table t ≡ Some l) s (laid_add (more - depth) depth table t l e)
 
 -- a type has one layout at most
-pub one_layout : (table : Table) (t : TypeTree) → HasOneLayout table t
+pub one_layout : (table : Table) (t : TypeTree) (l other : Layout) → HasLayout table t l → HasLayout table t other → l ≡ other
 one_layout table t l other h i =
     let a = laid_deeper h.depth (h.depth + i.depth) table (omega arith) t l h.is_laid in
     let b = laid_deeper i.depth (h.depth + i.depth) table (omega arith) t other i.is_laid in
@@ -107,16 +107,13 @@ times_fine (suc n) k l h e =
     let s = small_is (record { size = suc n * k.size; align = k.align }) l e in
     subst IsFine s.0 (record { positive = h.positive; align = h.align; size = s.1; some = some_product n k.size h.some })
 
-StructsAreFine : (ℕ → Option Layout) → Type 0
-StructsAreFine structs = (id : ℕ) (l : Layout) → structs id ≡ Some l → IsFine l
-
 mutual
-  unfolding layout_by form_layout_by StructsAreFine
+  unfolding layout_by form_layout_by
 
-  layout_by_fine : (structs : ℕ → Option Layout) → StructsAreFine structs → (t : TypeTree) (l : Layout) → layout_by structs t ≡ Some l → IsFine l
+  pub layout_by_fine : (structs : ℕ → Option Layout) → AreFine structs → (t : TypeTree) (l : Layout) → layout_by structs t ≡ Some l → IsFine l
   layout_by_fine structs h (Of constant form) l e = form_fine structs h form l e
 
-  form_fine : (structs : ℕ → Option Layout) → StructsAreFine structs → (form : FormTree) (l : Layout) → form_layout_by structs form ≡ Some l → IsFine l
+  form_fine : (structs : ℕ → Option Layout) → AreFine structs → (form : FormTree) (l : Layout) → form_layout_by structs form ≡ Some l → IsFine l
   form_fine structs h Void l e = cc
   form_fine structs h Boolean l e = let z : aligned_to_size 1 ≡ l = cc in subst IsFine z (at_size_fine 1 (omega arith) (omega arith))
   form_fine structs h (Integer bits signed) l e = integer_fine bits l e
@@ -161,11 +158,48 @@ struct_fine lay h (field ∷ body) l e =
     let p = r.0 in
     subst IsFine s.0 (record { positive = p.positive; align = p.align; size = s.1; some = omega arith })
 
-structs_fine : (depth : ℕ) (table : Table) → ((t : TypeTree) (l : Layout) → laid depth table t ≡ Some l → IsFine l) → (id : ℕ) (l : Layout) → structs_at depth table id ≡ Some l → IsFine l
+pub structs_fine : (depth : ℕ) (table : Table) → ((t : TypeTree) (l : Layout) → laid depth table t ≡ Some l → IsFine l) → (id : ℕ) (l : Layout) → structs_at depth table id ≡ Some l → IsFine l
 structs_fine depth table h id l e = let (body, p, q) = then_some (struct_layout (laid depth table)) (body_of table id) l e in struct_fine (laid depth table) h body l q
 
 -- a layout has an alignment of 1 to 8, and a byte at least
 pub laid_fine : (depth : ℕ) (table : Table) (t : TypeTree) (l : Layout) → laid depth table t ≡ Some l → IsFine l
-unfolding laid StructsAreFine
+unfolding laid
 laid_fine zero table t l e = layout_by_fine (λ id. None) (λ id m f. cc) t l e
 laid_fine (suc depth) table t l e = layout_by_fine (structs_at depth table) (structs_fine depth table (laid_fine depth table)) t l e
+
+-- where structs have the same layouts, so have types, members and structs of them
+pub same_by_keeps : (a b : Option Layout) → ((l : Layout) → a ≡ Some l → b ≡ Some l) → ((l : Layout) → b ≡ Some l → a ≡ Some l) → a ≡ b
+same_by_keeps None None h k = refl
+same_by_keeps None (Some l) h k = k l refl
+same_by_keeps (Some l) b h k = sym (h l refl)
+
+pub then_same : {A B : Type 0} (f g : A → Option B) → ((a : A) → f a ≡ g a) → (o : Option A) → option_and_then f o ≡ option_and_then g o
+then_same f g h None = refl
+then_same f g h (Some a) = h a
+
+mutual
+  unfolding layout_by form_layout_by
+
+  pub layout_by_same : (structs more : ℕ → Option Layout) → ((id : ℕ) → structs id ≡ more id) → (t : TypeTree) → layout_by structs t ≡ layout_by more t
+  layout_by_same structs more h (Of constant form) = form_layout_by_same structs more h form
+
+  form_layout_by_same : (structs more : ℕ → Option Layout) → ((id : ℕ) → structs id ≡ more id) → (form : FormTree) → form_layout_by structs form ≡ form_layout_by more form
+  form_layout_by_same structs more h Void = refl
+  form_layout_by_same structs more h Boolean = refl
+  form_layout_by_same structs more h (Integer bits signed) = refl
+  form_layout_by_same structs more h (Pointer to schema) = refl
+  form_layout_by_same structs more h (Array of None) = refl
+  form_layout_by_same structs more h (Array of (Some count)) = ap (option_and_then (times count)) (layout_by_same structs more h of)
+  form_layout_by_same structs more h (Struct id) = h id
+  form_layout_by_same structs more h (Function params result) = refl
+
+pub members_from_same : (lay more : TypeTree → Option Layout) → ((t : TypeTree) → lay t ≡ more t) → (so_far : Layout) (body : Body) → members_from lay so_far body ≡ members_from more so_far body
+unfolding members_from
+members_from_same lay more h so_far [] = refl
+members_from_same lay more h so_far (field ∷ body) =
+    ap (option_and_then (λ l. members_from lay (placed so_far l) body)) (h field.of)
+    ∙ then_same (λ l. members_from lay (placed so_far l) body) (λ l. members_from more (placed so_far l) body) (λ l. members_from_same lay more h (placed so_far l) body) (more field.of)
+
+pub struct_layout_same : (lay more : TypeTree → Option Layout) → ((t : TypeTree) → lay t ≡ more t) → (body : Body) → struct_layout lay body ≡ struct_layout more body
+struct_layout_same lay more h [] = refl
+struct_layout_same lay more h (field ∷ body) = ap (option_and_then padded) (members_from_same lay more h empty (field ∷ body))

@@ -1,3 +1,5 @@
+pub mod Bounds
+pub mod Copies
 pub mod Depth
 pub mod Examples
 pub mod Growth
@@ -5,5 +7,5 @@ pub mod Kept
 pub mod Laws
 pub mod Objects
 pub mod Raised
-pub mod Sound
+pub mod Results
 pub mod Views

@@ -1,46 +1,56 @@
 -- Types, members and structs keep their layouts where their table stands behind another.
-use Rattle.std.proofs.Common.{◌≡◌, ℕ, zero, suc, ◌+◌, ◌-◌, ◌<◌, cond, List, [], ◌∷◌, ◌++◌, length, Option, Some, None, option_map, refl, sym, ◌∙◌, ap, subst, arith, inl, inr, zero-add, suc-add}
+use Rattle.std.proofs.Common.{◌≡◌, ℕ, zero, suc, ◌+◌, ◌-◌, ◌≤◌, ◌<◌, ◌^◌, cond, List, [], ◌∷◌, ◌++◌, length, map, Option, Some, None, option_map, refl, sym, ◌∙◌, ap, subst, arith, ◌⊎◌, inl, inr, zero-add, suc-add, length-append}
 use Rattle.std.specs.Option.{option_and_then}
 use Rattle.std.specs.Int.{next_multiple_of}
 use Rattle.std.specs.List.{slice_get}
 use Rattle.std.specs.Str.{bytes_eq}
 use Rattle.std.proofs.lemmas.Bool.{cases_lt}
+use Rattle.std.proofs.lemmas.List.{length-map}
+use Rattle.std.proofs.lemmas.Option.{slice_get-map}
 use Rattle.pa_ctype.specs.declared.ctype.Layout.{Layout}
-use Rattle.pa_ctype.specs.declared.ctype.Held.{Held}
 use Rattle.pa_ctype.specs.declared.ctype.Member.{Member}
-use Rattle.pa_ctype.specs.Types.{TypeTree, Of, FormTree, Void, Boolean, Integer, Pointer, Array, Struct, Function, type_tree}
-use Rattle.pa_ctype.specs.Layouts.{Field, Body, Table, body_of, times, placed, empty, padded, members_from, struct_layout, layout_by, form_layout_by, laid, HasLayout, member_from, HasMember, field_of, fields_of, table_entry, table_of, AreKept, IsSound}
-use Rattle.pa_ctype.specs.Raised.{raised, raised_form, raised_field, raised_body, raised_table, layouts_of, kept_layouts, IsRaised}
-use Rattle.pa_ctype.proofs.Laws.{structs_at}
-use Rattle.pa_ctype.proofs.Growth.{Extends, kept_extends}
-
-then_same : {A B : Type 0} (f g : A → Option B) → ((a : A) → f a ≡ g a) → (o : Option A) → option_and_then f o ≡ option_and_then g o
-then_same f g h None = refl
-then_same f g h (Some a) = h a
-
--- the structs of both tables, by their ids
-pub get_before : {A : Type 0} (a b : List A) (id : ℕ) → id < length a → slice_get (a ++ b) id ≡ slice_get a id
-get_before [] b id h = absurd (omega arith)
-get_before (x ∷ a) b zero h = refl
-get_before (x ∷ a) b (suc id) h = get_before a b id (omega arith)
+use Rattle.pa_ctype.specs.declared.structs.LaidBody.{LaidBody}
+use Rattle.pa_ctype.specs.Types.{TypeTree, Of, FormTree, Void, Boolean, Integer, Pointer, Array, Struct, Function, TypeTrees, Nil, Cons, trees_of, id_bound, form_id_bound, ids_bound}
+use Rattle.pa_ctype.specs.Kept.{members_of, IsKeptBody, IsKept, PlainBody, plain, raised_plain, AreRaisable, IsRaisable, BodiesAreRaisable}
+use Rattle.pa_ctype.specs.Layouts.{Field, Body, Table, body_of, times, placed, empty, padded, members_from, struct_layout, layout_by, form_layout_by, laid, HasLayout, layout_in, member_from, HasMember, fields_of, table_of, IsSoundField, IsSoundBody}
+use Rattle.pa_ctype.specs.Raised.{raised, raised_form, raised_types, raised_field, raised_body, raised_table, followed}
+use Rattle.pa_ctype.proofs.Depth.{layout_is, layout_has}
+use Rattle.pa_ctype.proofs.Laws.{same_by_keeps, then_same, structs_at}
+use Rattle.pa_ctype.proofs.Growth.{extends_more, kept_extends}
 
 pub get_behind : {A : Type 0} (a b : List A) (id : ℕ) → slice_get (a ++ b) (length a + id) ≡ slice_get b id
 get_behind [] b id = rw zero-add refl
 get_behind (x ∷ a) b id = rw suc-add (get_behind a b id)
 
-pub extends_more : (a b : Table) → Extends a (a ++ b)
-extends_more [] b id body e = cc
-extends_more (x ∷ a) b zero body e = e
-extends_more (x ∷ a) b (suc id) body e = extends_more a b id body e
-
 body_raised : (by : ℕ) (table : Table) (id : ℕ) → body_of (raised_table by table) id ≡ option_map (raised_body by) (body_of table id)
-body_raised by [] id = refl
-body_raised by (None ∷ table) zero = refl
-body_raised by (Some body ∷ table) zero = refl
-body_raised by (x ∷ table) (suc id) = body_raised by table id
+body_raised by table id = ap (option_and_then (λ body. body)) (slice_get-map (option_map (raised_body by)) table id) ∙ by_entry (slice_get table id)
+  where
+    by_entry : (o : Option (Option Body)) → option_and_then (λ body. body) (option_map (option_map (raised_body by)) o) ≡ option_map (raised_body by) (option_and_then (λ body. body) o)
+    by_entry None = refl
+    by_entry (Some None) = refl
+    by_entry (Some (Some body)) = refl
 
 pub body_behind : (a b : Table) (id : ℕ) → body_of (a ++ raised_table (length a) b) (length a + id) ≡ option_map (raised_body (length a)) (body_of b id)
 body_behind a b id = ap (option_and_then (λ body. body)) (get_behind a (raised_table (length a) b) id) ∙ body_raised (length a) b id
+
+mutual
+  unfolding id_bound form_id_bound ids_bound raised raised_form raised_types
+
+  pub bound_raised : (by : ℕ) (t : TypeTree) → id_bound (raised by t) ≤ by + id_bound t
+  bound_raised by (Of constant form) = form_bound_raised by form
+
+  form_bound_raised : (by : ℕ) (form : FormTree) → form_id_bound (raised_form by form) ≤ by + form_id_bound form
+  form_bound_raised by Void = omega arith
+  form_bound_raised by Boolean = omega arith
+  form_bound_raised by (Integer bits signed) = omega arith
+  form_bound_raised by (Pointer to schema) = bound_raised by to
+  form_bound_raised by (Array of count) = bound_raised by of
+  form_bound_raised by (Struct id) = omega arith
+  form_bound_raised by (Function params result) = omega (arith, bounds_raised by params, bound_raised by result)
+
+  bounds_raised : (by : ℕ) (ts : TypeTrees) → ids_bound (raised_types by ts) ≤ by + ids_bound ts
+  bounds_raised by Nil = omega arith
+  bounds_raised by (Cons t ts) = omega (arith, bound_raised by t, bounds_raised by ts)
 
 mutual
   unfolding layout_by form_layout_by raised raised_form
@@ -57,6 +67,12 @@ mutual
   form_layout_raised by structs more h (Array of (Some count)) = ap (option_and_then (times count)) (layout_by_raised by structs more h of)
   form_layout_raised by structs more h (Struct id) = h id
   form_layout_raised by structs more h (Function params result) = refl
+
+-- types in order, each raised
+pub raised_each : (by : ℕ) (ts : List TypeTree) → raised_types by (trees_of ts) ≡ trees_of (map (raised by) ts)
+unfolding raised_types
+raised_each by [] = refl
+raised_each by (t ∷ ts) = ap (Cons (raised by t)) (raised_each by ts)
 
 -- types are laid as before their ids were raised
 abbrev AreAsBefore : ℕ → (TypeTree → Option Layout) → (TypeTree → Option Layout) → Type 0
@@ -75,7 +91,7 @@ struct_raised by lay more h (field ∷ body) = ap (option_and_then padded) (memb
 
 module _ (a b : Table) where
   abbrev both : Table
-  both = a ++ raised_table (length a) b
+  both = followed a b
 
   structs_raised : (depth : ℕ) → AreAsBefore (length a) (laid depth b) (laid depth both) → (id : ℕ) → structs_at depth both (length a + id) ≡ structs_at depth b id
   structs_raised depth h id = ap (option_and_then (struct_layout (laid depth both))) (body_behind a b id) ∙ by_body (body_of b id)
@@ -118,66 +134,126 @@ module _ (a b : Table) where
     found = member_from_raised h.depth name empty 0 h.body ∙ h.found;
   }
 
-pub record WasMembers (by : ℕ) (old : List (Option (List Held))) (id : ℕ) (members : List Held) : Type 0 where
-  pub before : List Held
-  pub at : slice_get old id ≡ Some (Some before)
-  pub fields : fields_of members ≡ raised_body by (fields_of before)
-  pub layouts : layouts_of members ≡ layouts_of before
+  -- and none where it has none there
+  layout_in_raised : (t : TypeTree) → layout_in both (raised (length a) t) ≡ layout_in b t
+  layout_in_raised t = same_by_keeps (layout_in both (raised (length a) t)) (layout_in b t)
+      (λ l e. layout_is b t l (layout_was t l (layout_has both (raised (length a) t) l e)))
+      (λ l e. layout_is both (raised (length a) t) l (layout_raised t l (layout_has b t l e)))
 
-entry_was : (by : ℕ) (x : Option (List Held)) (members : List Held) → table_entry (Some members) ≡ option_map (raised_body by) (table_entry x) → option_map layouts_of (Some members) ≡ option_map layouts_of x → WasMembers by (x ∷ []) 0 members
-entry_was by None members t l = cc
-entry_was by (Some before) members t l = record { before = before; at = refl; fields = cc; layouts = cc }
+  sound_field_raised : (field : Field) → IsSoundField b field → IsSoundField both (raised_field (length a) field)
+  sound_field_raised field h =
+      let (l, k) = h.complete in
+      let n = h.known in
+      record { complete = (l, layout_raised field.of l k); known = omega (arith, bound_raised (length a) field.of, length-both) }
+    where
+      length-both : length both ≡ length a + length b
+      length-both = length-append a (raised_table (length a) b) ∙ ap (λ n. length a + n) (length-map b (option_map (raised_body (length a))))
 
--- what the members of a raised struct were
-members_were : (by : ℕ) (old new : List (Option (List Held))) → table_of new ≡ raised_table by (table_of old) → kept_layouts new ≡ kept_layouts old → (id : ℕ) (members : List Held) → slice_get new id ≡ Some (Some members) → WasMembers by old id members
-members_were by old [] t l id members e = cc
-members_were by [] (y ∷ new) t l id members e = cc
-members_were by (x ∷ old) (y ∷ new) t l zero members e =
-    let z : y ≡ Some members = cc in
-    let p : table_entry y ≡ option_map (raised_body by) (table_entry x) = cc in
-    let q : option_map layouts_of y ≡ option_map layouts_of x = cc in
-    let w = entry_was by x members (sym (ap table_entry z) ∙ p) (sym (ap (option_map layouts_of) z) ∙ q) in
-    record { before = w.before; at = w.at; fields = w.fields; layouts = w.layouts }
-members_were by (x ∷ old) (y ∷ new) t l (suc id) members e =
-    let p : table_of new ≡ raised_table by (table_of old) = cc in
-    let q : kept_layouts new ≡ kept_layouts old = cc in
-    let w = members_were by old new p q id members e in
-    record { before = w.before; at = w.at; fields = w.fields; layouts = w.layouts }
+  -- a body is sound where it was
+  sound_raised : (body : Body) → IsSoundBody b body → IsSoundBody both (raised_body (length a) body)
+  unfolding IsSoundBody
+  sound_raised [] h = tt
+  sound_raised (field ∷ body) h = (sound_field_raised field h.0, sound_raised body h.1)
 
-kept_raised : (a b : Table) (before members : List Held) → AreKept b before → fields_of members ≡ raised_body (length a) (fields_of before) → layouts_of members ≡ layouts_of before → AreKept (a ++ raised_table (length a) b) members
-unfolding AreKept
-kept_raised a b before [] k f l = tt
-kept_raised a b [] (y ∷ members) k f l = cc
-kept_raised a b (x ∷ before) (y ∷ members) k f l =
-    let g : field_of y ≡ raised_field (length a) (field_of x) = cc in
-    let t : type_tree y.of ≡ raised (length a) (type_tree x.of) = ap (λ field. field.of) g in
-    let s : y.layout ≡ x.layout = cc in
-    let fs : fields_of members ≡ raised_body (length a) (fields_of before) = cc in
-    let ls : layouts_of members ≡ layouts_of before = cc in
-    (rw (t, s) (layout_raised a b (type_tree x.of) x.layout k.0), kept_raised a b before members k.1 fs ls)
+  -- so is one with its layout
+  pub kept_raised : (old new : LaidBody) → fields_of new.members ≡ raised_body (length a) (fields_of old.members) → new.layout ≡ old.layout → IsKeptBody b old → IsKeptBody both new
+  kept_raised old new f l h = record {
+    sound = subst (IsSoundBody both) (sym f) (sound_raised (fields_of old.members) h.sound);
+    layout = l ∙ h.layout ∙ sym (ap (struct_layout (layout_in both)) f ∙ struct_raised (length a) (layout_in b) (layout_in both) layout_in_raised (fields_of old.members));
+  }
 
-table_both : (a c : List (Option (List Held))) → table_of (a ++ c) ≡ table_of a ++ table_of c
-table_both [] c = refl
-table_both (x ∷ a) c = ap (λ t. table_entry x ∷ t) (table_both a c)
+abbrev plain_table : List (Option PlainBody) → Table
+plain_table = map (option_map (λ body. body.fields))
 
-table_count : (a : List (Option (List Held))) → length (table_of a) ≡ length a
+table_plain : (bodies : List (Option LaidBody)) → table_of (members_of bodies) ≡ plain_table (map plain bodies)
+table_plain [] = refl
+table_plain (None ∷ bodies) = ap (λ t. None ∷ t) (table_plain bodies)
+table_plain (Some x ∷ bodies) = ap (λ t. Some (fields_of x.members) ∷ t) (table_plain bodies)
+
+plain_raised : (by : ℕ) (bodies : List (Option PlainBody)) → plain_table (map (raised_plain by) bodies) ≡ raised_table by (plain_table bodies)
+plain_raised by [] = refl
+plain_raised by (None ∷ bodies) = ap (λ t. None ∷ t) (plain_raised by bodies)
+plain_raised by (Some x ∷ bodies) = ap (λ t. Some (raised_body by x.fields) ∷ t) (plain_raised by bodies)
+
+-- the second table, raised
+abbrev pub AreRaised : ℕ → List (Option LaidBody) → List (Option LaidBody) → Type 0
+AreRaised by old new = map plain new ≡ map (raised_plain by) (map plain old)
+
+table_raised : (by : ℕ) (old new : List (Option LaidBody)) → AreRaised by old new → table_of (members_of new) ≡ raised_table by (table_of (members_of old))
+table_raised by old new h = table_plain new ∙ ap plain_table h ∙ plain_raised by (map plain old) ∙ ap (raised_table by) (sym (table_plain old))
+
+table_both : (a b : List (Option LaidBody)) → table_of (members_of (a ++ b)) ≡ table_of (members_of a) ++ table_of (members_of b)
+table_both [] b = refl
+table_both (x ∷ a) b = ap (λ t. option_map fields_of (option_map (λ body. body.members) x) ∷ t) (table_both a b)
+
+pub table_count : (a : List (Option LaidBody)) → length (table_of (members_of a)) ≡ length a
 table_count [] = refl
 table_count (x ∷ a) = ap suc (table_count a)
 
--- the table of one file behind the others is sound
-pub sound_behind : (a b c : List (Option (List Held))) → IsSound a → IsSound b → IsRaised (length a) b c → IsSound (a ++ c)
-sound_behind a b c h k r id members e = elim (cases_lt id (length a)) [
-  | inl under ↦
-      rw (table_both a c) (kept_extends (table_of a) (table_of a ++ table_of c) members (extends_more (table_of a) (table_of c)) (h id members (sym (get_before a c id under) ∙ e)))
-  | inr over ↦ behind (id - length a) (omega arith)
-]
-  where
-    whole : table_of a ++ raised_table (length (table_of a)) (table_of b) ≡ table_of (a ++ c)
-    whole = ap (λ n. table_of a ++ raised_table n (table_of b)) (table_count a) ∙ ap (λ t. table_of a ++ t) (sym r.table) ∙ sym (table_both a c)
+-- the table of both
+pub followed_is : (a b c : List (Option LaidBody)) (by : ℕ) → by ≡ length a → AreRaised by b c → table_of (members_of (a ++ c)) ≡ followed (table_of (members_of a)) (table_of (members_of b))
+followed_is a b c by e h =
+    table_both a c ∙ ap (λ t. table_of (members_of a) ++ t) (table_raised by b c h)
+    ∙ ap (λ n. table_of (members_of a) ++ raised_table n (table_of (members_of b))) (e ∙ sym (table_count a))
 
-    behind : (n : ℕ) → length a + n ≡ id → AreKept (table_of (a ++ c)) members
+abbrev body_with : Body → Option Layout → PlainBody
+body_with fields layout = record { fields = fields; layout = layout }
+
+-- what a raised body was
+pub record Was (by : ℕ) (old : List (Option LaidBody)) (id : ℕ) (new : LaidBody) : Type 0 where
+  pub before : LaidBody
+  pub at : slice_get old id ≡ Some (Some before)
+  pub fields : fields_of new.members ≡ raised_body by (fields_of before.members)
+  pub layout : new.layout ≡ before.layout
+
+was : (by : ℕ) (old new : List (Option LaidBody)) → AreRaised by old new → (id : ℕ) (body : LaidBody) → slice_get new id ≡ Some (Some body) → Was by old id body
+was by old new h id body e = by_entry (slice_get old id) refl
+  where
+    both : Some (plain (Some body)) ≡ option_map (raised_plain by) (option_map plain (slice_get old id))
+    both = sym (ap (option_map plain) e) ∙ sym (slice_get-map plain new id) ∙ ap (λ l. slice_get l id) h ∙ slice_get-map (raised_plain by) (map plain old) id ∙ ap (option_map (raised_plain by)) (slice_get-map plain old id)
+
+    by_entry : (o : Option (Option LaidBody)) → slice_get old id ≡ o → Was by old id body
+    by_entry None f = let z : Some (plain (Some body)) ≡ None = both ∙ ap (λ o. option_map (raised_plain by) (option_map plain o)) f in cc
+    by_entry (Some None) f = let z : Some (plain (Some body)) ≡ Some None = both ∙ ap (λ o. option_map (raised_plain by) (option_map plain o)) f in cc
+    by_entry (Some (Some x)) f =
+        let z : Some (plain (Some body)) ≡ Some (raised_plain by (plain (Some x))) = both ∙ ap (λ o. option_map (raised_plain by) (option_map plain o)) f in
+        let p : body_with (fields_of body.members) body.layout ≡ body_with (raised_body by (fields_of x.members)) x.layout = cc in
+        record { before = x; at = f; fields = ap (λ b. b.fields) p; layout = ap (λ b. b.layout) p }
+
+get_before_was : (a c : List (Option LaidBody)) (id : ℕ) (body : LaidBody) → id < length a → slice_get (a ++ c) id ≡ Some (Some body) → slice_get a id ≡ Some (Some body)
+get_before_was [] c id body h e = absurd (omega arith)
+get_before_was (x ∷ a) c zero body h e = e
+get_before_was (x ∷ a) c (suc id) body h e = get_before_was a c id body (omega arith) e
+
+-- what is kept of both is right
+pub kept_both : (a b c : List (Option LaidBody)) (by : ℕ) → by ≡ length a → AreRaised by b c → IsKept a → IsKept b → IsKept (a ++ c)
+kept_both a b c by e r h k id body at = subst (λ t. IsKeptBody t body) (sym (followed_is a b c by e r)) (by_place (cases_lt id (length a)))
+  where
+    behind : (n : ℕ) → length a + n ≡ id → IsKeptBody (followed (table_of (members_of a)) (table_of (members_of b))) body
     behind n s =
-        let at : slice_get c n ≡ Some (Some members) = sym (get_behind a c n) ∙ ap (slice_get (a ++ c)) s ∙ e in
-        let w = members_were (length a) b c r.table r.layouts n members at in
-        let f : fields_of members ≡ raised_body (length (table_of a)) (fields_of w.before) = w.fields ∙ ap (λ n. raised_body n (fields_of w.before)) (sym (table_count a)) in
-        subst (λ t. AreKept t members) whole (kept_raised (table_of a) (table_of b) w.before members (k n w.before w.at) f w.layouts)
+        let g : slice_get c n ≡ Some (Some body) = sym (get_behind a c n) ∙ ap (slice_get (a ++ c)) s ∙ at in
+        let w = was by b c r n body g in
+        let f : fields_of body.members ≡ raised_body (length (table_of (members_of a))) (fields_of w.before.members) = w.fields ∙ ap (λ m. raised_body m (fields_of w.before.members)) (e ∙ sym (table_count a)) in
+        kept_raised (table_of (members_of a)) (table_of (members_of b)) w.before body f w.layout (k n w.before w.at)
+
+    by_place : (id < length a) ⊎ (length a ≤ id) → IsKeptBody (followed (table_of (members_of a)) (table_of (members_of b))) body
+    by_place (inl under) = kept_extends (table_of (members_of a)) (followed (table_of (members_of a)) (table_of (members_of b))) body (extends_more (table_of (members_of a)) (raised_table (length (table_of (members_of a))) (table_of (members_of b)))) (h id body (get_before_was a c id body under at))
+    by_place (inr over) = behind (id - length a) (omega arith)
+
+-- ids of a sound table may be raised
+raisable_body : (by : ℕ) (table : Table) (body : Body) → by + length table ≤ 2 ^ 32 → IsSoundBody table body → AreRaisable by body
+unfolding IsSoundBody AreRaisable
+raisable_body by table [] h s = tt
+raisable_body by table (field ∷ body) h s = (let k = s.0.known in omega arith, raisable_body by table body h s.1)
+
+raisable_bodies : (by : ℕ) (table : Table) (bodies : List (Option LaidBody)) → by + length table ≤ 2 ^ 32 → ((id : ℕ) (body : LaidBody) → slice_get bodies id ≡ Some (Some body) → IsKeptBody table body) → BodiesAreRaisable by bodies
+unfolding BodiesAreRaisable
+raisable_bodies by table [] h k = tt
+raisable_bodies by table (x ∷ bodies) h k = (by_entry x (k 0), raisable_bodies by table bodies h (λ id. k (suc id)))
+  where
+    by_entry : (x : Option LaidBody) → ((body : LaidBody) → Some x ≡ Some (Some body) → IsKeptBody table body) → IsRaisable by x
+    by_entry None f = tt
+    by_entry (Some body) f = raisable_body by table (fields_of body.members) h (f body refl).sound
+
+pub kept_raisable : (by : ℕ) (bodies : List (Option LaidBody)) → by + length bodies ≤ 2 ^ 32 → IsKept bodies → BodiesAreRaisable by bodies
+kept_raisable by bodies h k = raisable_bodies by (table_of (members_of bodies)) bodies (omega (arith, table_count bodies)) k

@@ -1,11 +1,30 @@
--- What private calls compute, from the layouts that are kept with members. No contract of a public call speaks of these.
-use Rattle.std.specs.Prelude.{◌≡◌, ℕ, ◌+◌, ◌≤◌, if◌then◌else◌, List, [], ◌∷◌, Option, Some, None, slice_get}
-use Rattle.std.specs.Int.{next_multiple_of}
-use Rattle.std.specs.Str.{bytes_eq}
+-- What `Structs` keeps beside the members of a struct. No contract of a public call speaks of it.
+use Rattle.std.specs.Prelude.{◌≡◌, ℕ, ◌+◌, ◌^◌, ◌≤◌, List, [], ◌∷◌, map, Option, Some, None, option_map, option_and_then, slice_get}
 use Rattle.pa_ctype.specs.declared.ctype.Layout.{Layout}
 use Rattle.pa_ctype.specs.declared.ctype.Held.{Held}
-use Rattle.pa_ctype.specs.declared.ctype.Member.{Member}
-use Rattle.pa_ctype.specs.Layouts.{most_bytes, placed, empty, padded}
+use Rattle.pa_ctype.specs.declared.structs.LaidBody.{LaidBody}
+use Rattle.pa_ctype.specs.Types.{TypeTree, id_bound}
+use Rattle.pa_ctype.specs.Layouts.{Body, Table, most_bytes, members_from, struct_layout, layout_in, fields_of, table_of, IsSoundBody}
+use Rattle.pa_ctype.specs.Raised.{raised_body}
+
+-- what contracts see: the members alone
+abbrev pub members_of : List (Option LaidBody) → List (Option (List Held))
+members_of = map (option_map (λ body. body.members))
+
+-- what is kept for the struct of this id: its body, and its layout
+abbrev pub kept_body : List (Option LaidBody) → ℕ → Option LaidBody
+kept_body bodies id = option_and_then (λ body. body) (slice_get bodies id)
+
+abbrev pub kept_layout : List (Option LaidBody) → ℕ → Option Layout
+kept_layout bodies id = option_and_then (λ body. body.layout) (kept_body bodies id)
+
+-- the members are sound, and the layout that is kept is that of the struct
+pub record IsKeptBody (table : Table) (body : LaidBody) : Type 0 where
+  pub sound : IsSoundBody table (fields_of body.members)
+  pub layout : body.layout ≡ struct_layout (layout_in table) (fields_of body.members)
+
+abbrev pub IsKept : List (Option LaidBody) → Type 0
+IsKept bodies = (id : ℕ) (body : LaidBody) → slice_get bodies id ≡ Some (Some body) → IsKeptBody (table_of (members_of bodies)) body
 
 -- what each layout is like: an alignment of 1 to 8, and 1 to 4,294,967,295 bytes
 pub record IsFine (l : Layout) : Type 0 where
@@ -14,45 +33,38 @@ pub record IsFine (l : Layout) : Type 0 where
   pub size : l.size ≤ most_bytes
   pub some : 1 ≤ l.size
 
--- each kept layout is like that
-unfoldable pub AreFine : List Held → Type 0
-AreFine [] = Unit {0}
-AreFine (held ∷ more) = IsFine held.layout × AreFine more
+-- so of each struct's
+abbrev pub AreFine : (ℕ → Option Layout) → Type 0
+AreFine structs = (id : ℕ) (l : Layout) → structs id ≡ Some l → IsFine l
 
--- in each struct with a body
-abbrev pub AreFineStructs : List (Option (List Held)) → Type 0
-AreFineStructs structs = (id : ℕ) (members : List Held) → slice_get structs id ≡ Some (Some members) → AreFine members
+-- these members, behind those that are laid so far, end within the most bytes that a type has
+pub record EndsWithin (lay : TypeTree → Option Layout) (so_far : Layout) (body : Body) : Type 0 where
+  pub end : Layout
+  pub ends : members_from lay so_far body ≡ Some end
+  pub within : end.size ≤ most_bytes
 
--- members one behind the other
-unfoldable pub kept_from : Layout → List Held → Layout
-kept_from so_far [] = so_far
-kept_from so_far (held ∷ more) = kept_from (placed so_far held.layout) more
+-- a body with the layout of its struct, as plain data
+pub record PlainBody : Type 0 where
+  pub fields : Body
+  pub layout : Option Layout
 
--- the layout of a struct, which has a member at least
-abbrev pub kept_layout : List Held → Option Layout
-kept_layout [] = None
-kept_layout (held ∷ more) = padded (kept_from empty (held ∷ more))
+abbrev pub plain : Option LaidBody → Option PlainBody
+plain = option_map (λ body. record { fields = fields_of body.members; layout = body.layout })
 
--- none without a body, and for no struct
-abbrev pub kept_entry : Option (Option (List Held)) → Option Layout
-kept_entry None = None
-kept_entry (Some None) = None
-kept_entry (Some (Some members)) = kept_layout members
+-- with each id in its types raised, and the same layout
+abbrev pub raised_plain : ℕ → Option PlainBody → Option PlainBody
+raised_plain by = option_map (λ body. record { fields = raised_body by body.fields; layout = body.layout })
 
-abbrev pub kept_struct : List (Option (List Held)) → ℕ → Option Layout
-kept_struct structs id = kept_entry (slice_get structs id)
+-- ids in types of the members are below 2 ^ 32 when they are raised
+unfoldable pub AreRaisable : ℕ → Body → Type 0
+AreRaisable by [] = Unit {0}
+AreRaisable by (field ∷ body) = (by + id_bound field.of ≤ 2 ^ 32) × AreRaisable by body
 
--- the first member of that name, behind those that are laid so far
-unfoldable pub kept_member : List ℕ → Layout → ℕ → List Held → Option Member
-kept_member name so_far index [] = None
-kept_member name so_far index (held ∷ more) =
-    if bytes_eq held.name name then Some (record { offset = next_multiple_of so_far.size held.layout.align; index = index }) else kept_member name (placed so_far held.layout) (index + 1) more
+abbrev pub IsRaisable : ℕ → Option LaidBody → Type 0
+IsRaisable by None = Unit {0}
+IsRaisable by (Some body) = AreRaisable by (fields_of body.members)
 
-abbrev pub member_in : List ℕ → Option (Option (List Held)) → Option Member
-member_in name None = None
-member_in name (Some None) = None
-member_in name (Some (Some members)) = kept_member name empty 0 members
-
--- members of the struct, where it has a body, end within 4,294,967,295 bytes, its padding aside
-abbrev pub EndWithin : List (Option (List Held)) → ℕ → Type 0
-EndWithin structs id = (members : List Held) → slice_get structs id ≡ Some (Some members) → (kept_from empty members).size ≤ most_bytes
+-- so of each struct
+unfoldable pub BodiesAreRaisable : ℕ → List (Option LaidBody) → Type 0
+BodiesAreRaisable by [] = Unit {0}
+BodiesAreRaisable by (body ∷ bodies) = IsRaisable by body × BodiesAreRaisable by bodies

@@ -1,15 +1,13 @@
 -- How many bytes objects have, of which number their addresses are multiples, and where members lie (C11 6.2.8, 6.5.3.4,
 -- 6.7.2.1; where it leaves a choice, as the Procedure Call Standard for the Arm 64-bit Architecture).
-use Rattle.std.specs.Prelude.{◌≡◌, ℕ, zero, suc, ◌+◌, ◌*◌, ◌/◌, max, Bool, true, false, not, ◌||◌, ◌==◌, nat_le, if◌then◌else◌, List, [], ◌∷◌, ◌++◌, length, Result, Ok, Err, Option, Some, None, option_and_then, slice_get}
+use Rattle.std.specs.Prelude.{◌≡◌, ℕ, zero, suc, ◌+◌, ◌*◌, ◌/◌, ◌≤◌, max, true, false, not, ◌||◌, ◌==◌, nat_le, if◌then◌else◌, List, [], ◌∷◌, length, map, Option, Some, None, option_map, option_and_then, slice_get}
 use Rattle.std.specs.Int.{next_multiple_of}
 use Rattle.std.specs.List.{list_all}
 use Rattle.std.specs.Str.{bytes_eq}
-use Rattle.pa_num.specs.declared.fault.Memory.{Memory}
-use Rattle.pa_ctype.specs.declared.ctype.CType.{CType}
 use Rattle.pa_ctype.specs.declared.ctype.Layout.{Layout}
 use Rattle.pa_ctype.specs.declared.ctype.Held.{Held}
 use Rattle.pa_ctype.specs.declared.ctype.Member.{Member}
-use Rattle.pa_ctype.specs.Types.{TypeTree, Of, FormTree, Void, Boolean, Integer, Pointer, Array, Struct, Function, type_tree}
+use Rattle.pa_ctype.specs.Types.{TypeTree, Of, FormTree, Void, Boolean, Integer, Pointer, Array, Struct, Function, type_tree, id_bound}
 
 -- a member, the members of a struct, and the structs by their ids
 pub record Field : Type 0 where
@@ -135,47 +133,35 @@ abbrev pub field_of : Held → Field
 field_of held = record { name = held.name; of = type_tree held.of }
 
 abbrev pub fields_of : List Held → Body
-fields_of [] = []
-fields_of (held ∷ more) = field_of held ∷ fields_of more
-
-abbrev pub table_entry : Option (List Held) → Option Body
-table_entry None = None
-table_entry (Some members) = Some (fields_of members)
+fields_of = map field_of
 
 abbrev pub table_of : List (Option (List Held)) → Table
-table_of [] = []
-table_of (entry ∷ more) = table_entry entry ∷ table_of more
+table_of = map (option_map fields_of)
 
--- each member is kept with the layout of its type
-unfoldable pub AreKept : Table → List Held → Type 0
-AreKept table [] = Unit {0}
-AreKept table (held ∷ more) = HasLayout table (type_tree held.of) held.layout × AreKept table more
+-- a member's type is complete and names structs of the table only
+pub record IsSoundField (table : Table) (field : Field) : Type 0 where
+  pub complete : IsComplete table field.of
+  pub known : id_bound field.of ≤ length table
 
--- what a struct with a body holds are complete object types of at most `most_bytes` bytes (the struct itself may have more),
--- no struct holds itself, and members are kept with their layouts
-abbrev pub IsSound : List (Option (List Held)) → Type 0
-IsSound structs = (id : ℕ) (members : List Held) → slice_get structs id ≡ Some (Some members) → AreKept (table_of structs) members
+-- so of each member
+unfoldable pub IsSoundBody : Table → Body → Type 0
+IsSoundBody table [] = Unit {0}
+IsSoundBody table (field ∷ body) = IsSoundField table field × IsSoundBody table body
 
--- what `push_member` answers
-abbrev pub IsPushed : Table → List Held → List ℕ → CType → Result Bool Memory → List Held → Type 0
-IsPushed table old name of (Ok true) new = (l : Layout) × HasLayout table (type_tree of) l × (new ≡ old ++ record { name = name; of = of; layout = l } ∷ []) × AreKept table new
-IsPushed table old name of (Ok false) new = ((l : Layout) → HasLayout table (type_tree of) l → ⊥) × (new ≡ old)
-IsPushed table old name of (Err e) new = new ≡ old
+-- so of each struct with a body
+abbrev pub IsSound : Table → Type 0
+IsSound table = (id : ℕ) (body : Body) → body_of table id ≡ Some body → IsSoundBody table body
 
--- what `layout_of` answers
+-- what `layout_of` answers: the one layout of the type, or that it has none
 abbrev pub IsLayoutOf : Table → TypeTree → Option Layout → Type 0
 IsLayoutOf table t None = (l : Layout) → HasLayout table t l → ⊥
-IsLayoutOf table t (Some l) = HasLayout table t l
+IsLayoutOf table t (Some l) = HasLayout table t l × ((other : Layout) → HasLayout table t other → other ≡ l)
 
--- a type has one layout at most
-abbrev pub HasOneLayout : Table → TypeTree → Type 0
-HasOneLayout table t = (l other : Layout) → HasLayout table t l → HasLayout table t other → l ≡ other
-
--- what `member` answers
+-- what `member` answers: the one member of that name that is the first, or that no member has the name
 abbrev pub IsMemberOf : Table → ℕ → List ℕ → Option Member → Type 0
 IsMemberOf table id name None = LacksMember table id name
-IsMemberOf table id name (Some member) = HasMember table id name member
+IsMemberOf table id name (Some member) = HasMember table id name member × ((other : Member) → HasMember table id name other → other ≡ member)
 
 -- the struct has a layout, or no body
 abbrev pub IsLaidStruct : Table → ℕ → Type 0
-IsLaidStruct table id = (body : Body) → body_of table id ≡ Some body → (l : Layout) × HasLayout table (Of false (Struct id)) l
+IsLaidStruct table id = (body : Body) → body_of table id ≡ Some body → IsComplete table (Of false (Struct id))

@@ -1,5 +1,5 @@
--- Types of C as plain data.
-use Rattle.std.specs.Prelude.{ℕ, Bool, List, [], ◌∷◌, Option}
+-- Types of C (C11 6.2.5) as plain data.
+use Rattle.std.specs.Prelude.{ℕ, suc, max, Bool, List, [], ◌∷◌, Option}
 use Rattle.pa_pac.specs.declared.schema.Schema.{Schema}
 use Rattle.pa_ctype.specs.declared.ctype.CType.{CType, fold-CType}
 use Rattle.pa_ctype.specs.declared.ctype.Form.TheOpen.{CType-F, Form-F}
@@ -44,3 +44,21 @@ type_tree = fold-CType FormTree TypeTree form_layer type_layer
 
 unfoldable pub form_tree : Form → FormTree
 form_tree = fold-Form FormTree TypeTree form_layer type_layer
+
+-- ids of structs in the type are below this: one more than the largest, or 0 where there is none
+unfoldable mutual
+  pub id_bound : TypeTree → ℕ
+  id_bound (Of constant form) = form_id_bound form
+
+  pub form_id_bound : FormTree → ℕ
+  form_id_bound Void = 0
+  form_id_bound Boolean = 0
+  form_id_bound (Integer bits signed) = 0
+  form_id_bound (Pointer to schema) = id_bound to
+  form_id_bound (Array of count) = id_bound of
+  form_id_bound (Struct id) = suc id
+  form_id_bound (Function params result) = max (ids_bound params) (id_bound result)
+
+  pub ids_bound : TypeTrees → ℕ
+  ids_bound Nil = 0
+  ids_bound (Cons first rest) = max (id_bound first) (ids_bound rest)

@@ -53,19 +53,15 @@ pub struct Layout {
     pub align: u64,
 }
 
-/// A member of a struct, with the layout of its type.
+/// A member of a struct.
 #[derive(Drop)]
 pub struct Held {
     pub name: Name,
     pub of: CType,
-    pub layout: Layout,
 }
 
 /// The members of a struct in order.
 pub type Members = Sequence<Held>;
-
-/// The structs by their ids. None: a struct without a body.
-pub type Structs = Sequence<Option<Members>>;
 
 /// Where a member lies in its struct, in bytes, and its place among the members from 0.
 #[derive(Clone, Copy, Debug, PartialEq, Eq)]

@@ -6,9 +6,9 @@ mod ctype;
 mod sizes;
 mod structs;
 
-pub use ctype::{CType, CTypes, Form, Held, Layout, Member, Members, Structs};
+pub use ctype::{CType, CTypes, Form, Held, Layout, Member, Members};
 pub use sizes::{align, layout_of, member, size};
-pub use structs::{declare_struct, define_struct, push_member};
+pub use structs::Structs;
 
 #[cfg(test)]
 mod tests;

@@ -1,12 +1,9 @@
 //! Layouts by hand, as clang has them for arm64 with the same declarations.
-ghost use Rattle.std.specs.Prelude.{◌≡◌, true, false};
-ghost use Rattle.pa_ctype.specs.Types.{Of, Struct, type_tree};
+ghost use Rattle.std.specs.Prelude.{◌≡◌, ◌≤◌, ◌+◌, length, map, true, false, IfOk, IfSome};
+ghost use Rattle.pa_ctype.specs.Types.{Of, Struct, type_tree, form_tree, trees_of, id_bound, form_id_bound, ids_bound};
 ghost use Rattle.pa_ctype.specs.Layouts as spec;
 
-use crate::{
-    CType, CTypes, Form, Members, Structs, align, declare_struct, define_struct, layout_of, member,
-    push_member, size,
-};
+use crate::{CType, CTypes, Form, Held, Members, Structs, align, layout_of, member, size};
 use pa_num::Name;
 use pa_pac::{Key, Schema};
 use sqlite_items::Boxed;
@@ -36,16 +33,20 @@ const SCHEMA: Schema = Schema {
     disc: 42,
 };
 
-fn plain(form: Form) -> CType {
+#[tactic(auto, using(crate::proofs::Bounds::bound_type))]
+fn plain(form: Form) -> CType
+    ensures { id_bound (type_tree result) ≡ form_id_bound (form_tree form) }
+{
     CType {
         constant: false,
         form,
     }
 }
 
-#[tactic(auto, using(crate::proofs::Views::views))]
+#[tactic(auto, using(crate::proofs::Views::views, crate::proofs::Bounds::bound_type, crate::proofs::Bounds::bounds))]
 fn struct_type(id: u32) -> CType
-    ensures { type_tree result ≡ Of false (Struct id) }
+    ensures tree { type_tree result ≡ Of false (Struct id) }
+    ensures bound { id_bound (type_tree result) ≡ id + 1 }
 {
     CType {
         constant: false,
@@ -53,49 +54,95 @@ fn struct_type(id: u32) -> CType
     }
 }
 
-fn int(bits: u8) -> CType {
+#[tactic(auto, using(crate::proofs::Bounds::bounds))]
+fn int(bits: u8) -> CType
+    ensures { id_bound (type_tree result) ≡ 0 }
+{
     plain(Form::Int { bits, signed: true })
 }
 
-fn array(alloc: Global, of: CType, count: Option<u64>) -> Result<CType, AllocError> {
+#[tactic(auto, using(crate::proofs::Bounds::bounds))]
+fn array(alloc: Global, of: CType, count: Option<u64>) -> Result<CType, AllocError>
+    ensures { IfOk result (λ t. id_bound (type_tree t) ≡ id_bound (type_tree of)) }
+{
     Ok(plain(Form::Array {
         of: Boxed::new(alloc, of)?,
         count,
     }))
 }
 
-fn pointer(alloc: Global, to: CType, schema: Option<Schema>) -> Result<CType, AllocError> {
+#[tactic(auto, using(crate::proofs::Bounds::bounds))]
+fn pointer(alloc: Global, to: CType, schema: Option<Schema>) -> Result<CType, AllocError>
+    ensures { IfOk result (λ t. id_bound (type_tree t) ≡ id_bound (type_tree to)) }
+{
     Ok(plain(Form::Pointer {
         to: Boxed::new(alloc, to)?,
         schema,
     }))
 }
 
-fn function(alloc: Global) -> Result<CType, AllocError> {
+#[tactic(auto, unfolding(crate::specs::Types::ids_bound))]
+fn parameters(alloc: Global) -> Result<CTypes, AllocError>
+    ensures { IfOk result (λ ts. ids_bound (trees_of (map type_tree ts)) ≡ 0) }
+{
     let mut params = CTypes::new(alloc);
     params.push(int(64))?;
+    Ok(params)
+}
+
+#[tactic(auto, using(crate::proofs::Bounds::bounds))]
+fn function(alloc: Global) -> Result<CType, AllocError>
+    ensures { IfOk result (λ t. id_bound (type_tree t) ≡ 0) }
+{
     Ok(plain(Form::Function {
-        params,
+        params: parameters(alloc)?,
         result: Boxed::new(alloc, int(32))?,
     }))
 }
 
-fn made(alloc: Global, shape: Shape) -> Result<CType, AllocError> {
+#[tactic(auto, using(crate::proofs::Bounds::bounds))]
+fn void() -> CType
+    ensures { id_bound (type_tree result) ≡ 0 }
+{
+    plain(Form::Void)
+}
+
+#[tactic(auto, using(crate::proofs::Bounds::bounds))]
+fn boolean() -> CType
+    ensures { id_bound (type_tree result) ≡ 0 }
+{
+    plain(Form::Bool)
+}
+
+/// The type of a shape that names no struct.
+fn structless(alloc: Global, shape: Shape) -> Result<CType, AllocError>
+    ensures { IfOk result (λ t. id_bound (type_tree t) ≡ 0) }
+{
     match shape {
-        Shape::Void => Ok(plain(Form::Void)),
-        Shape::Bool => Ok(plain(Form::Bool)),
+        Shape::Bool => Ok(boolean()),
         Shape::Int(bits) => Ok(int(bits)),
-        Shape::Pointer => pointer(alloc, plain(Form::Void), None),
+        Shape::Pointer => pointer(alloc, void(), None),
         Shape::Qualified => pointer(alloc, function(alloc)?, Some(SCHEMA)),
         Shape::Function => function(alloc),
-        Shape::Struct(id) => Ok(struct_type(id)),
         Shape::Ints(bits, count) => array(alloc, int(bits), Some(count)),
         Shape::Rows(bits, inner, outer) => {
             array(alloc, array(alloc, int(bits), Some(inner))?, Some(outer))
         }
-        Shape::Structs(id, count) => array(alloc, struct_type(id), Some(count)),
         Shape::Open => array(alloc, int(32), None),
         Shape::Functions => array(alloc, function(alloc)?, Some(2)),
+        Shape::Void | Shape::Struct(_) | Shape::Structs(_, _) => Ok(void()),
+    }
+}
+
+/// The type of a shape, where there are so many structs. None: it names another.
+fn made(alloc: Global, shape: Shape, structs: usize) -> Result<Option<CType>, AllocError>
+    ensures { IfOk result (λ made. IfSome made (λ t. id_bound (type_tree t) ≤ structs)) }
+{
+    match shape {
+        Shape::Struct(id) | Shape::Structs(id, _) if id as usize >= structs => Ok(None),
+        Shape::Struct(id) => Ok(Some(struct_type(id))),
+        Shape::Structs(id, count) => Ok(Some(array(alloc, struct_type(id), Some(count))?)),
+        _ => Ok(Some(structless(alloc, shape)?)),
     }
 }
 
@@ -108,45 +155,42 @@ type Row = (&'static str, Shape, u64);
 
 /// One more struct, of these members. None: a member's type has no layout.
 fn add(alloc: Global, structs: &mut Structs, rows: &[Row]) -> Result<Option<u32>, Fail>
-    requires sound { spec.IsSound structs.old }
-    ensures sound { spec.IsSound structs.new }
+    ensures { length structs.old ≤ 101 → length structs.new ≤ 101 }
 {
     if structs.len() > 100 {
         return Ok(None);
     }
-    let id = declare_struct(structs)?;
+    let id = structs.declare()?;
     let mut members = Members::new(alloc);
     for (name, shape, _) in rows {
         let name = named(alloc, name)?;
-        let of = made(alloc, *shape)?;
-        if !push_member(structs, &mut members, name, of)? {
+        let Some(of) = made(alloc, *shape, structs.len())? else {
             return Ok(None);
-        }
+        };
+        let Some(_) = layout_of(structs, &of) else {
+            return Ok(None);
+        };
+        members.push(Held { name, of })?;
     }
-    define_struct(structs, id, members);
+    structs.define(id, members);
     Ok(Some(id))
 }
 
 /// Size and alignment, where the type has a layout.
-fn by_calls(structs: &Structs, t: &CType) -> Option<(u64, u64)>
-    requires { spec.IsSound structs.now }
-{
+fn by_calls(structs: &Structs, t: &CType) -> Option<(u64, u64)> {
     layout_of(structs, t)?;
     Some((size(structs, t), align(structs, t)))
 }
 
-#[tactic(auto, using(crate::proofs::Sound::struct_is_laid))]
+#[tactic(auto, using(crate::proofs::Results::struct_is_laid))]
 fn is_laid(structs: &Structs, id: u32) -> bool
-    requires { spec.IsSound structs.now }
     ensures { result ≡ true → spec.IsLaidStruct (spec.table_of structs.now) id }
 {
     layout_of(structs, &struct_type(id)).is_some()
 }
 
 /// Offset and place of a member, where the struct has a layout.
-fn member_at(structs: &Structs, id: u32, name: &Name) -> Option<(u64, usize)>
-    requires { spec.IsSound structs.now }
-{
+fn member_at(structs: &Structs, id: u32, name: &Name) -> Option<(u64, usize)> {
     if !is_laid(structs, id) {
         return None;
     }
@@ -161,9 +205,7 @@ fn members_lie(
     id: u32,
     rows: &[Row],
     laid: bool,
-) -> Result<bool, AllocError>
-    requires { spec.IsSound structs.now }
-{
+) -> Result<bool, AllocError> {
     for (index, (name, _, offset)) in rows.iter().enumerate() {
         let name = named(alloc, name)?;
         let want = laid.then_some((*offset, index));
@@ -287,7 +329,7 @@ const STRUCTS: [(&[Row], Option<(u64, u64)>); 14] = [
 fn types_have_their_layouts(rt: HostRuntime) -> Result<(), Fail> {
     let structs = Structs::new(rt.alloc());
     for (shape, want) in &SHAPES {
-        let t = made(rt.alloc(), *shape)?;
+        let t = made(rt.alloc(), *shape, 2)?.ok_or("no such struct")?;
         assert_eq!(rt; by_calls(&structs, &t), *want, "at {shape:?}");
     }
     Ok(())
@@ -351,11 +393,72 @@ fn is_qualified(t: &CType) -> bool {
 
 #[test]
 fn a_copy_is_as_its_type(rt: HostRuntime) -> Result<(), Fail> {
-    let t = made(rt.alloc(), Shape::Qualified)?;
+    let t = made(rt.alloc(), Shape::Qualified, 0)?.ok_or("no such struct")?;
     let copy = t.copy(rt.alloc())?;
     assert!(rt; is_qualified(&t) && is_qualified(&copy));
-    let rows = made(rt.alloc(), Shape::Rows(32, 3, 2))?.copy(rt.alloc())?;
+    let rows = made(rt.alloc(), Shape::Rows(32, 3, 2), 0)?.ok_or("no such struct")?;
+    let copy = rows.copy(rt.alloc())?;
     let structs = Structs::new(rt.alloc());
-    assert_eq!(rt; by_calls(&structs, &rows), Some((24, 4)));
+    assert_eq!(rt; by_calls(&structs, &copy), Some((24, 4)));
+    Ok(())
+}
+
+/// The structs of these members, each by its place.
+fn table(alloc: Global, rows: &[&[Row]]) -> Result<Structs, Fail>
+    ensures { IfOk result (λ structs. length structs ≤ 101) }
+{
+    let mut structs = Structs::new(alloc);
+    for rows in rows {
+        add(alloc, &mut structs, rows)?;
+    }
+    Ok(structs)
+}
+
+const FIRST: [&[Row]; 2] = [&[("a", Shape::Int(8), 0)], &[("b", Shape::Int(64), 0)]];
+
+const SECOND: [&[Row]; 2] = [
+    &[("a", Shape::Int(32), 0)],
+    &[("c", Shape::Int(8), 0), ("d", Shape::Structs(0, 3), 4)],
+];
+
+/// The second table behind the first.
+fn both_tables(alloc: Global) -> Result<Structs, Fail> {
+    let first = table(alloc, &FIRST)?;
+    let second = table(alloc, &SECOND)?;
+    Ok(first.followed_by(alloc, &second)?)
+}
+
+#[test]
+fn tables_behind_others_keep_their_layouts(rt: HostRuntime) -> Result<(), Fail> {
+    let both = both_tables(rt.alloc())?;
+    for (id, want) in [(0, (1, 1)), (1, (8, 8)), (2, (4, 4)), (3, (16, 4))] {
+        assert_eq!(rt; by_calls(&both, &struct_type(id)), Some(want), "at {id}");
+    }
+    Ok(())
+}
+
+#[test]
+fn tables_behind_others_name_their_structs(rt: HostRuntime) -> Result<(), Fail> {
+    let both = both_tables(rt.alloc())?;
+    let members = both.get(3).ok_or("no body")?;
+    let is_raised = members.get(1).is_some_and(|held| is_array_of(&held.of, 2));
+    assert!(rt; is_raised);
+    assert_eq!(rt; both.get(4).is_none(), true);
+    Ok(())
+}
+
+/// Whether the type is an array of the struct `id`.
+fn is_array_of(t: &CType, id: u32) -> bool {
+    let Form::Array { of, .. } = &t.form else {
+        return false;
+    };
+    matches!(&of.get().form, Form::Struct { id: found } if *found == id)
+}
+
+#[test]
+fn ids_are_raised(rt: HostRuntime) -> Result<(), Fail> {
+    let t = array(rt.alloc(), struct_type(7), Some(2))?;
+    let raised = t.raised(rt.alloc(), 35)?;
+    assert!(rt; is_array_of(&raised, 42));
     Ok(())
 }

@@ -1,6 +1,7 @@
 pub mod Cut
 pub mod Header
 pub mod Laws
+pub mod Limits
 pub mod Made
 pub mod Numbers
 pub mod Small

@@ -1,4 +1,6 @@
 pub mod Bytes
 pub mod Known
+pub mod Places
 pub mod Reading
+pub mod Small
 pub mod Writing

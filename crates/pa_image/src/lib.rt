@@ -1,6 +1,7 @@
 //! Whole images, as data and as bytes, read and written.
 #![tactic(auto)]
 
+mod extent;
 mod image;
 mod parts;
 mod reading;
@@ -9,6 +10,7 @@ mod sizes;
 mod tests;
 mod writing;
 
+pub use extent::{is_small, places};
 pub use image::Image;
 pub use reading::read_image;
 pub use writing::{legal, write_image};

@@ -3,8 +3,8 @@ use Rattle.std.proofs.Common.{◌≡◌, List, ◌++◌, Ok, Err, refl}
 use Rattle.pa_lex.specs.declared.token.Token.{Token}
 use Rattle.pa_tree.specs.Cursors.{Cursor, start}
 use Rattle.pa_tree.specs.Stmts.{FileTree}
-use Rattle.pa_pexpr.specs.Parser.{Stop}
-use Rattle.pa_pexpr.proofs.Local.{LocalAt, Stops}
+use Rattle.pa_reading.specs.Parser.{Stop}
+use Rattle.pa_reading.proofs.Local.{LocalAt, Stops}
 use Rattle.pa_pdecl.specs.Answers.{IsFile, NoneBegins, place, most_levels}
 use Rattle.pa_pdecl.specs.Reading.{file}
 use Rattle.pa_pdecl.proofs.LocalReading.{file-local}

@@ -3,7 +3,7 @@ use Rattle.std.specs.Prelude.{◌≡◌, ◌≤◌, ℕ, List, ◌++◌, Option,
 use Rattle.pa_num.specs.declared.fault.Fault.{Fault}
 use Rattle.pa_num.specs.declared.fault.Fault.TheVariants.{Refused, Memory}
 use Rattle.pa_lex.specs.declared.token.Token.{Token}
-use Rattle.pa_pexpr.specs.declared.rule.SynRule.{SynRule}
+use Rattle.pa_reading.specs.declared.rule.SynRule.{SynRule}
 use Rattle.pa_tree.specs.Cursors.{Cursor, head}
 use Rattle.pa_tree.specs.Stmts.{FileTree}
 use Rattle.pa_tree.specs.Files.{Spells}

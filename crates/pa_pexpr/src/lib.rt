@@ -1,18 +1,18 @@
 //! Expressions, specifiers and declarators of C, from tokens to the one tree that spells them.
 #![tactic(auto)]
 
+mod arguments;
+mod below;
+mod climb;
+mod depth;
 mod infix;
-mod name;
+mod operand;
 mod piece;
-mod reader;
-mod rule;
-mod token;
+mod whole;
 
-pub use infix::{Infix, tree_level};
-pub use name::{begins_type, is_type, plain_name};
-pub use piece::texts;
-pub use reader::{Reader, needs};
-pub use rule::{Level, Naming, ParseError, SynRule};
+pub use depth::{read_declarator, read_expr, read_specs};
+pub use pa_reading::{Level, Naming, ParseError, Reader, SynRule, TypeNames, begins_type, needs};
+pub use whole::{MOST_LEVELS, declarator, expr, type_specs};
 
 #[cfg(test)]
 mod tests;

@@ -3,13 +3,13 @@ use Rattle.std.proofs.Common.{◌≡◌, ℕ, suc, ◌+◌, List, [], ◌∷◌,
 use Rattle.pa_typed.specs.declared.expr.TExpr.{TExpr}
 use Rattle.pa_typed.specs.Counts.{part_count}
 use Rattle.pa_typed.specs.Views.{t_expr_tree, t_exprs_of}
-use Rattle.pa_typed.specs.Typed.{TypedExpr, TypedExprs, LocalPlace, GlobalPlace, StringPlace, Same, Member, Index, Deref, Number, Load, LoadSigned, Store, StoreSigned, AddressOf, FunctionValue, Convert, Unary, Binary, PointerAdd, PointerSub, Compare, And, Or, Choose, Comma, CallDirect, CallPointer, NoTExprs, ConsTExpr, TypedCell, TypedForStart, TypedStmt, TypedStmts, Declares, Evaluates, Compound, InitLocal, Expression, If, IfElse, While, DoWhile, For, Switch, Case, Default, Break, Continue, Return, NoTStmts, ConsTStmt}
+use Rattle.pa_typed.specs.Typed.{TypedExpr, TypedExprs, LocalPlace, GlobalPlace, StringPlace, Same, Member, Index, Deref, Number, Load, LoadSigned, Store, StoreSigned, AddressOf, FunctionValue, Convert, Unary, Binary, PointerAdd, PointerSub, Compare, And, Or, Choose, Comma, CallDirect, CallPointer, NoTExprs, ConsTExpr, TypedStmt, TypedStmts, Compound, InitLocal, Expression, If, IfElse, While, DoWhile, For, Switch, Case, Default, Break, Continue, Return, NoTStmts, ConsTStmt}
 
 abbrev mutual
   pub expr_size : TypedExpr → ℕ
   expr_size (LocalPlace local of) = 1
   expr_size (GlobalPlace name place of) = 1
-  expr_size (StringPlace bytes of) = 1
+  expr_size (StringPlace text of) = 1
   expr_size (Same of) = 1
   expr_size (Member owner index offset of) = suc (expr_size owner)
   expr_size (Index left right pointer_left of) = suc (suc (expr_size left + expr_size right))
@@ -46,23 +46,19 @@ part_count_is (e ∷ es) = ap suc (part_count_is es)
 abbrev mutual
   pub stmt_size : TypedStmt → ℕ
   stmt_size (Compound items) = suc (stmts_size items)
-  stmt_size (InitLocal local cells) = 1
+  stmt_size (InitLocal name) = 1
   stmt_size (Expression value) = 1
   stmt_size (If test body) = suc (stmt_size body)
   stmt_size (IfElse test when_true when_false) = suc (stmt_size when_true + stmt_size when_false)
   stmt_size (While test body) = suc (stmt_size body)
   stmt_size (DoWhile body test) = suc (stmt_size body)
-  stmt_size (For start test step body) = suc (start_size start + stmt_size body)
+  stmt_size (For start test step body) = suc (stmt_size body)
   stmt_size (Switch value body) = suc (stmt_size body)
-  stmt_size (Case value body) = suc (stmt_size body)
+  stmt_size (Case value of body) = suc (stmt_size body)
   stmt_size (Default body) = suc (stmt_size body)
   stmt_size Break = 1
   stmt_size Continue = 1
   stmt_size (Return value) = 1
-
-  pub start_size : TypedForStart → ℕ
-  start_size (Declares names) = suc (stmts_size names)
-  start_size (Evaluates value) = 1
 
   pub stmts_size : TypedStmts → ℕ
   stmts_size NoTStmts = 0

@@ -7,17 +7,16 @@ use Rattle.pa_ctype.specs.declared.ctype.CType.{CType}
 use Rattle.pa_typed.specs.declared.expr.UnaryOperation.{UnaryOperation}
 use Rattle.pa_typed.specs.declared.expr.BinaryOperation.{BinaryOperation}
 use Rattle.pa_typed.specs.declared.expr.Comparison.{Comparison}
-use Rattle.pa_typed.specs.declared.stmt.Cell.{Cell}
+use Rattle.pa_typed.specs.declared.stmt.LocalInit.{LocalInit}
 use Rattle.pa_typed.specs.declared.expr.TExpr.{TExpr, fold-TExpr, fold-roll-TExpr}
 use Rattle.pa_typed.specs.declared.expr.TExpr.TheVariants as vTExpr
 use Rattle.pa_typed.specs.declared.expr.TExpr.TheOpen.{TExpr-F}
-use Rattle.pa_typed.specs.declared.stmt.TForStart.{TForStart, fold-TForStart, fold-roll-TForStart}
-use Rattle.pa_typed.specs.declared.stmt.TForStart.TheVariants as vTForStart
+use Rattle.pa_typed.specs.declared.stmt.TForStart.{TForStart}
 use Rattle.pa_typed.specs.declared.stmt.TStmt.{TStmt, fold-TStmt, fold-roll-TStmt}
 use Rattle.pa_typed.specs.declared.stmt.TStmt.TheVariants as vTStmt
-use Rattle.pa_typed.specs.declared.stmt.TForStart.TheOpen.{TForStart-F, TStmt-F}
-use Rattle.pa_typed.specs.Typed.{TypedExpr, LocalPlace, GlobalPlace, StringPlace, Same, Member, Index, Deref, Number, Load, LoadSigned, Store, StoreSigned, AddressOf, FunctionValue, Convert, Unary, Binary, PointerAdd, PointerSub, Compare, And, Or, Choose, Comma, CallDirect, CallPointer, TypedForStart, TypedStmt, Declares, Evaluates, Compound, InitLocal, Expression, If, IfElse, While, DoWhile, For, Switch, Case, Default, Break, Continue, Return}
-use Rattle.pa_typed.specs.Views.{t_expr_tree, t_expr_layer, t_exprs_of, t_for_start_tree, t_stmt_tree, t_for_start_layer, t_stmt_layer, t_stmts_of, cell_tree}
+use Rattle.pa_typed.specs.declared.stmt.TStmt.TheOpen.{TStmt-F}
+use Rattle.pa_typed.specs.Typed.{TypedExpr, LocalPlace, GlobalPlace, StringPlace, Same, Member, Index, Deref, Number, Load, LoadSigned, Store, StoreSigned, AddressOf, FunctionValue, Convert, Unary, Binary, PointerAdd, PointerSub, Compare, And, Or, Choose, Comma, CallDirect, CallPointer, TypedStmt, Compound, InitLocal, Expression, If, IfElse, While, DoWhile, For, Switch, Case, Default, Break, Continue, Return}
+use Rattle.pa_typed.specs.Views.{t_expr_tree, t_expr_layer, t_exprs_of, t_for_start_tree, t_stmt_tree, t_stmt_layer, t_stmts_of, local_init_tree}
 
 pub tree-LocalPlace : (local : ℕ) (of : CType) → t_expr_tree (vTExpr.LocalPlace local of) ≡ LocalPlace local (type_tree of)
 unfolding t_expr_tree
@@ -27,9 +26,9 @@ pub tree-GlobalPlace : (name : List ℕ) (place : ℕ) (of : CType) → t_expr_t
 unfolding t_expr_tree
 tree-GlobalPlace name place of = ap (fold-TExpr TypedExpr t_expr_layer) (sym (vTExpr.rolls-GlobalPlace name place of)) ∙ fold-roll-TExpr TypedExpr t_expr_layer (TExpr-F.GlobalPlace name place of)
 
-pub tree-StringPlace : (bytes : List ℕ) (of : CType) → t_expr_tree (vTExpr.StringPlace bytes of) ≡ StringPlace bytes (type_tree of)
+pub tree-StringPlace : (text : ℕ) (of : CType) → t_expr_tree (vTExpr.StringPlace text of) ≡ StringPlace text (type_tree of)
 unfolding t_expr_tree
-tree-StringPlace bytes of = ap (fold-TExpr TypedExpr t_expr_layer) (sym (vTExpr.rolls-StringPlace bytes of)) ∙ fold-roll-TExpr TypedExpr t_expr_layer (TExpr-F.StringPlace bytes of)
+tree-StringPlace text of = ap (fold-TExpr TypedExpr t_expr_layer) (sym (vTExpr.rolls-StringPlace text of)) ∙ fold-roll-TExpr TypedExpr t_expr_layer (TExpr-F.StringPlace text of)
 
 pub tree-Same : (of : CType) → t_expr_tree (vTExpr.Same of) ≡ Same (type_tree of)
 unfolding t_expr_tree
@@ -124,69 +123,61 @@ unfolding t_expr_tree
 tree-CallPointer arguments function of = ap (fold-TExpr TypedExpr t_expr_layer) (sym (vTExpr.rolls-CallPointer arguments function of)) ∙ fold-roll-TExpr TypedExpr t_expr_layer (TExpr-F.CallPointer arguments function of)
 
 pub tree-Compound : (items : List TStmt) → t_stmt_tree (vTStmt.Compound items) ≡ Compound (t_stmts_of (map t_stmt_tree items))
-unfolding t_stmt_tree t_for_start_tree
-tree-Compound items = ap (fold-TStmt TypedForStart TypedStmt t_for_start_layer t_stmt_layer) (sym (vTStmt.rolls-Compound items)) ∙ fold-roll-TStmt TypedForStart TypedStmt t_for_start_layer t_stmt_layer (TStmt-F.Compound items)
+unfolding t_stmt_tree
+tree-Compound items = ap (fold-TStmt TypedStmt t_stmt_layer) (sym (vTStmt.rolls-Compound items)) ∙ fold-roll-TStmt TypedStmt t_stmt_layer (TStmt-F.Compound items)
 
-pub tree-InitLocal : (local : ℕ) (cells : List Cell) → t_stmt_tree (vTStmt.InitLocal local cells) ≡ InitLocal local (map cell_tree cells)
-unfolding t_stmt_tree t_for_start_tree
-tree-InitLocal local cells = ap (fold-TStmt TypedForStart TypedStmt t_for_start_layer t_stmt_layer) (sym (vTStmt.rolls-InitLocal local cells)) ∙ fold-roll-TStmt TypedForStart TypedStmt t_for_start_layer t_stmt_layer (TStmt-F.InitLocal local cells)
+pub tree-InitLocal : (name : LocalInit) → t_stmt_tree (vTStmt.InitLocal name) ≡ InitLocal (local_init_tree name)
+unfolding t_stmt_tree
+tree-InitLocal name = ap (fold-TStmt TypedStmt t_stmt_layer) (sym (vTStmt.rolls-InitLocal name)) ∙ fold-roll-TStmt TypedStmt t_stmt_layer (TStmt-F.InitLocal name)
 
 pub tree-Expression : (value : Option TExpr) → t_stmt_tree (vTStmt.Expression value) ≡ Expression (option_map t_expr_tree value)
-unfolding t_stmt_tree t_for_start_tree
-tree-Expression value = ap (fold-TStmt TypedForStart TypedStmt t_for_start_layer t_stmt_layer) (sym (vTStmt.rolls-Expression value)) ∙ fold-roll-TStmt TypedForStart TypedStmt t_for_start_layer t_stmt_layer (TStmt-F.Expression value)
+unfolding t_stmt_tree
+tree-Expression value = ap (fold-TStmt TypedStmt t_stmt_layer) (sym (vTStmt.rolls-Expression value)) ∙ fold-roll-TStmt TypedStmt t_stmt_layer (TStmt-F.Expression value)
 
 pub tree-If : (test : TExpr) (body : TStmt) → t_stmt_tree (vTStmt.If test body) ≡ If (t_expr_tree test) (t_stmt_tree body)
-unfolding t_stmt_tree t_for_start_tree
-tree-If test body = ap (fold-TStmt TypedForStart TypedStmt t_for_start_layer t_stmt_layer) (sym (vTStmt.rolls-If test body)) ∙ fold-roll-TStmt TypedForStart TypedStmt t_for_start_layer t_stmt_layer (TStmt-F.If test body)
+unfolding t_stmt_tree
+tree-If test body = ap (fold-TStmt TypedStmt t_stmt_layer) (sym (vTStmt.rolls-If test body)) ∙ fold-roll-TStmt TypedStmt t_stmt_layer (TStmt-F.If test body)
 
 pub tree-IfElse : (test : TExpr) (when_true : TStmt) (when_false : TStmt) → t_stmt_tree (vTStmt.IfElse test when_true when_false) ≡ IfElse (t_expr_tree test) (t_stmt_tree when_true) (t_stmt_tree when_false)
-unfolding t_stmt_tree t_for_start_tree
-tree-IfElse test when_true when_false = ap (fold-TStmt TypedForStart TypedStmt t_for_start_layer t_stmt_layer) (sym (vTStmt.rolls-IfElse test when_true when_false)) ∙ fold-roll-TStmt TypedForStart TypedStmt t_for_start_layer t_stmt_layer (TStmt-F.IfElse test when_true when_false)
+unfolding t_stmt_tree
+tree-IfElse test when_true when_false = ap (fold-TStmt TypedStmt t_stmt_layer) (sym (vTStmt.rolls-IfElse test when_true when_false)) ∙ fold-roll-TStmt TypedStmt t_stmt_layer (TStmt-F.IfElse test when_true when_false)
 
 pub tree-While : (test : TExpr) (body : TStmt) → t_stmt_tree (vTStmt.While test body) ≡ While (t_expr_tree test) (t_stmt_tree body)
-unfolding t_stmt_tree t_for_start_tree
-tree-While test body = ap (fold-TStmt TypedForStart TypedStmt t_for_start_layer t_stmt_layer) (sym (vTStmt.rolls-While test body)) ∙ fold-roll-TStmt TypedForStart TypedStmt t_for_start_layer t_stmt_layer (TStmt-F.While test body)
+unfolding t_stmt_tree
+tree-While test body = ap (fold-TStmt TypedStmt t_stmt_layer) (sym (vTStmt.rolls-While test body)) ∙ fold-roll-TStmt TypedStmt t_stmt_layer (TStmt-F.While test body)
 
 pub tree-DoWhile : (body : TStmt) (test : TExpr) → t_stmt_tree (vTStmt.DoWhile body test) ≡ DoWhile (t_stmt_tree body) (t_expr_tree test)
-unfolding t_stmt_tree t_for_start_tree
-tree-DoWhile body test = ap (fold-TStmt TypedForStart TypedStmt t_for_start_layer t_stmt_layer) (sym (vTStmt.rolls-DoWhile body test)) ∙ fold-roll-TStmt TypedForStart TypedStmt t_for_start_layer t_stmt_layer (TStmt-F.DoWhile body test)
+unfolding t_stmt_tree
+tree-DoWhile body test = ap (fold-TStmt TypedStmt t_stmt_layer) (sym (vTStmt.rolls-DoWhile body test)) ∙ fold-roll-TStmt TypedStmt t_stmt_layer (TStmt-F.DoWhile body test)
 
 pub tree-For : (start : TForStart) (test : Option TExpr) (step : Option TExpr) (body : TStmt) → t_stmt_tree (vTStmt.For start test step body) ≡ For (t_for_start_tree start) (option_map t_expr_tree test) (option_map t_expr_tree step) (t_stmt_tree body)
-unfolding t_stmt_tree t_for_start_tree
-tree-For start test step body = ap (fold-TStmt TypedForStart TypedStmt t_for_start_layer t_stmt_layer) (sym (vTStmt.rolls-For start test step body)) ∙ fold-roll-TStmt TypedForStart TypedStmt t_for_start_layer t_stmt_layer (TStmt-F.For start test step body)
+unfolding t_stmt_tree
+tree-For start test step body = ap (fold-TStmt TypedStmt t_stmt_layer) (sym (vTStmt.rolls-For start test step body)) ∙ fold-roll-TStmt TypedStmt t_stmt_layer (TStmt-F.For start test step body)
 
 pub tree-Switch : (value : TExpr) (body : TStmt) → t_stmt_tree (vTStmt.Switch value body) ≡ Switch (t_expr_tree value) (t_stmt_tree body)
-unfolding t_stmt_tree t_for_start_tree
-tree-Switch value body = ap (fold-TStmt TypedForStart TypedStmt t_for_start_layer t_stmt_layer) (sym (vTStmt.rolls-Switch value body)) ∙ fold-roll-TStmt TypedForStart TypedStmt t_for_start_layer t_stmt_layer (TStmt-F.Switch value body)
+unfolding t_stmt_tree
+tree-Switch value body = ap (fold-TStmt TypedStmt t_stmt_layer) (sym (vTStmt.rolls-Switch value body)) ∙ fold-roll-TStmt TypedStmt t_stmt_layer (TStmt-F.Switch value body)
 
-pub tree-Case : (value : TExpr) (body : TStmt) → t_stmt_tree (vTStmt.Case value body) ≡ Case (t_expr_tree value) (t_stmt_tree body)
-unfolding t_stmt_tree t_for_start_tree
-tree-Case value body = ap (fold-TStmt TypedForStart TypedStmt t_for_start_layer t_stmt_layer) (sym (vTStmt.rolls-Case value body)) ∙ fold-roll-TStmt TypedForStart TypedStmt t_for_start_layer t_stmt_layer (TStmt-F.Case value body)
+pub tree-Case : (value : ℕ) (of : CType) (body : TStmt) → t_stmt_tree (vTStmt.Case value of body) ≡ Case value (type_tree of) (t_stmt_tree body)
+unfolding t_stmt_tree
+tree-Case value of body = ap (fold-TStmt TypedStmt t_stmt_layer) (sym (vTStmt.rolls-Case value of body)) ∙ fold-roll-TStmt TypedStmt t_stmt_layer (TStmt-F.Case value of body)
 
 pub tree-Default : (body : TStmt) → t_stmt_tree (vTStmt.Default body) ≡ Default (t_stmt_tree body)
-unfolding t_stmt_tree t_for_start_tree
-tree-Default body = ap (fold-TStmt TypedForStart TypedStmt t_for_start_layer t_stmt_layer) (sym (vTStmt.rolls-Default body)) ∙ fold-roll-TStmt TypedForStart TypedStmt t_for_start_layer t_stmt_layer (TStmt-F.Default body)
+unfolding t_stmt_tree
+tree-Default body = ap (fold-TStmt TypedStmt t_stmt_layer) (sym (vTStmt.rolls-Default body)) ∙ fold-roll-TStmt TypedStmt t_stmt_layer (TStmt-F.Default body)
 
 pub tree-Break : t_stmt_tree vTStmt.Break ≡ Break
-unfolding t_stmt_tree t_for_start_tree
-tree-Break = ap (fold-TStmt TypedForStart TypedStmt t_for_start_layer t_stmt_layer) (sym vTStmt.rolls-Break) ∙ fold-roll-TStmt TypedForStart TypedStmt t_for_start_layer t_stmt_layer TStmt-F.Break
+unfolding t_stmt_tree
+tree-Break = ap (fold-TStmt TypedStmt t_stmt_layer) (sym vTStmt.rolls-Break) ∙ fold-roll-TStmt TypedStmt t_stmt_layer TStmt-F.Break
 
 pub tree-Continue : t_stmt_tree vTStmt.Continue ≡ Continue
-unfolding t_stmt_tree t_for_start_tree
-tree-Continue = ap (fold-TStmt TypedForStart TypedStmt t_for_start_layer t_stmt_layer) (sym vTStmt.rolls-Continue) ∙ fold-roll-TStmt TypedForStart TypedStmt t_for_start_layer t_stmt_layer TStmt-F.Continue
+unfolding t_stmt_tree
+tree-Continue = ap (fold-TStmt TypedStmt t_stmt_layer) (sym vTStmt.rolls-Continue) ∙ fold-roll-TStmt TypedStmt t_stmt_layer TStmt-F.Continue
 
 pub tree-Return : (value : Option TExpr) → t_stmt_tree (vTStmt.Return value) ≡ Return (option_map t_expr_tree value)
-unfolding t_stmt_tree t_for_start_tree
-tree-Return value = ap (fold-TStmt TypedForStart TypedStmt t_for_start_layer t_stmt_layer) (sym (vTStmt.rolls-Return value)) ∙ fold-roll-TStmt TypedForStart TypedStmt t_for_start_layer t_stmt_layer (TStmt-F.Return value)
-
-pub tree-Declares : (names : List TStmt) → t_for_start_tree (vTForStart.Declares names) ≡ Declares (t_stmts_of (map t_stmt_tree names))
-unfolding t_stmt_tree t_for_start_tree
-tree-Declares names = ap (fold-TForStart TypedForStart TypedStmt t_for_start_layer t_stmt_layer) (sym (vTForStart.rolls-Declares names)) ∙ fold-roll-TForStart TypedForStart TypedStmt t_for_start_layer t_stmt_layer (TForStart-F.Declares names)
-
-pub tree-Evaluates : (value : Option TExpr) → t_for_start_tree (vTForStart.Evaluates value) ≡ Evaluates (option_map t_expr_tree value)
-unfolding t_stmt_tree t_for_start_tree
-tree-Evaluates value = ap (fold-TForStart TypedForStart TypedStmt t_for_start_layer t_stmt_layer) (sym (vTForStart.rolls-Evaluates value)) ∙ fold-roll-TForStart TypedForStart TypedStmt t_for_start_layer t_stmt_layer (TForStart-F.Evaluates value)
+unfolding t_stmt_tree
+tree-Return value = ap (fold-TStmt TypedStmt t_stmt_layer) (sym (vTStmt.rolls-Return value)) ∙ fold-roll-TStmt TypedStmt t_stmt_layer (TStmt-F.Return value)
 
 pub ruleset typed_expr_views = (tree-LocalPlace, tree-GlobalPlace, tree-StringPlace, tree-Same, tree-Member, tree-Index, tree-Deref, tree-Number, tree-Load, tree-LoadSigned, tree-Store, tree-StoreSigned, tree-AddressOf, tree-FunctionValue, tree-Convert, tree-Unary, tree-Binary, tree-PointerAdd, tree-PointerSub, tree-Compare, tree-And, tree-Or, tree-Choose, tree-Comma, tree-CallDirect, tree-CallPointer)
 
-pub ruleset typed_stmt_views = (tree-Declares, tree-Evaluates, tree-Compound, tree-InitLocal, tree-Expression, tree-If, tree-IfElse, tree-While, tree-DoWhile, tree-For, tree-Switch, tree-Case, tree-Default, tree-Break, tree-Continue, tree-Return)
+pub ruleset typed_stmt_views = (tree-Compound, tree-InitLocal, tree-Expression, tree-If, tree-IfElse, tree-While, tree-DoWhile, tree-For, tree-Switch, tree-Case, tree-Default, tree-Break, tree-Continue, tree-Return)

@@ -3,7 +3,7 @@ use Rattle.std.specs.Prelude.{ℕ, suc, ◌+◌, ◌*◌, max, List, [], ◌∷�
 use Rattle.std.specs.Int.{next_multiple_of}
 use Rattle.pa_typed.specs.declared.unit.CLocal.{CLocal}
 use Rattle.pa_typed.specs.declared.unit.Function.{Function}
-use Rattle.pa_typed.specs.Typed.{TypedExpr, TypedExprs, LocalPlace, GlobalPlace, StringPlace, Same, Member, Index, Deref, Number, Load, LoadSigned, Store, StoreSigned, AddressOf, FunctionValue, Convert, Unary, Binary, PointerAdd, PointerSub, Compare, And, Or, Choose, Comma, CallDirect, CallPointer, NoTExprs, ConsTExpr, TypedCell, TypedForStart, TypedStmt, TypedStmts, Declares, Evaluates, Compound, InitLocal, Expression, If, IfElse, While, DoWhile, For, Switch, Case, Default, Break, Continue, Return, NoTStmts, ConsTStmt}
+use Rattle.pa_typed.specs.Typed.{TypedExpr, TypedExprs, LocalPlace, GlobalPlace, StringPlace, Same, Member, Index, Deref, Number, Load, LoadSigned, Store, StoreSigned, AddressOf, FunctionValue, Convert, Unary, Binary, PointerAdd, PointerSub, Compare, And, Or, Choose, Comma, CallDirect, CallPointer, NoTExprs, ConsTExpr, TypedGiven, GivenValue, GivenText, TypedInitial, TypedLocalInit, TypedForStart, TypedStmt, TypedStmts, Declares, Evaluates, Compound, InitLocal, Expression, If, IfElse, While, DoWhile, For, Switch, Case, Default, Break, Continue, Return, NoTStmts, ConsTStmt}
 use Rattle.pa_typed.specs.Views.{t_stmt_tree}
 
 -- How many values may wait while an expression is evaluated. Of one without parts it is 1. Of `&&`, `||`, `?:` and the comma it is
@@ -13,7 +13,7 @@ abbrev mutual
   pub expr_pend : TypedExpr → ℕ
   expr_pend (LocalPlace local of) = 1
   expr_pend (GlobalPlace name place of) = 1
-  expr_pend (StringPlace bytes of) = 1
+  expr_pend (StringPlace text of) = 1
   expr_pend (Same of) = 1
   expr_pend (Member owner index offset of) = expr_pend owner
   expr_pend (Index left right pointer_left of) = max (expr_pend left) (1 + expr_pend right)
@@ -51,15 +51,36 @@ abbrev pub maybe_pend : Option TypedExpr → ℕ
 maybe_pend None = 0
 maybe_pend (Some e) = expr_pend e
 
-abbrev pub cells_pend : List TypedCell → ℕ
-cells_pend [] = 0
-cells_pend (c ∷ cs) = max (expr_pend c.value) (cells_pend cs)
+-- a text that is given to an array is no expression
+abbrev pub given_pend : TypedGiven → ℕ
+given_pend (GivenValue value) = expr_pend value
+given_pend (GivenText text) = 0
 
--- The largest of the expressions in a statement, or 0 where there is none. A part of an expression has no larger one than the whole.
+abbrev pub initials_pend : List TypedInitial → ℕ
+initials_pend [] = 0
+initials_pend (i ∷ is) = max (given_pend i.given) (initials_pend is)
+
+abbrev pub name_initials_pend : Option (List TypedInitial) → ℕ
+name_initials_pend None = 0
+name_initials_pend (Some is) = initials_pend is
+
+abbrev pub name_pend : TypedLocalInit → ℕ
+name_pend name = name_initials_pend name.initials
+
+abbrev pub names_pend : List TypedLocalInit → ℕ
+names_pend [] = 0
+names_pend (name ∷ names) = max (name_pend name) (names_pend names)
+
+abbrev pub start_pend : TypedForStart → ℕ
+start_pend (Declares names) = names_pend names
+start_pend (Evaluates value) = maybe_pend value
+
+-- The largest of the expressions in a statement, or 0 where there is none; the number of a `case` is one. A part of an expression
+-- has no larger one than the whole.
 abbrev mutual
   pub stmt_pend : TypedStmt → ℕ
   stmt_pend (Compound items) = stmts_pend items
-  stmt_pend (InitLocal local cells) = cells_pend cells
+  stmt_pend (InitLocal name) = name_pend name
   stmt_pend (Expression value) = maybe_pend value
   stmt_pend (If test body) = max (expr_pend test) (stmt_pend body)
   stmt_pend (IfElse test when_true when_false) = max (expr_pend test) (max (stmt_pend when_true) (stmt_pend when_false))
@@ -67,15 +88,11 @@ abbrev mutual
   stmt_pend (DoWhile body test) = max (stmt_pend body) (expr_pend test)
   stmt_pend (For start test step body) = max (start_pend start) (max (maybe_pend test) (max (maybe_pend step) (stmt_pend body)))
   stmt_pend (Switch value body) = max (expr_pend value) (stmt_pend body)
-  stmt_pend (Case value body) = max (expr_pend value) (stmt_pend body)
+  stmt_pend (Case value of body) = max 1 (stmt_pend body)
   stmt_pend (Default body) = stmt_pend body
   stmt_pend Break = 0
   stmt_pend Continue = 0
   stmt_pend (Return value) = maybe_pend value
-
-  pub start_pend : TypedForStart → ℕ
-  start_pend (Declares names) = stmts_pend names
-  start_pend (Evaluates value) = maybe_pend value
 
   pub stmts_pend : TypedStmts → ℕ
   stmts_pend NoTStmts = 0

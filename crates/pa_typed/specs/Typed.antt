@@ -10,7 +10,7 @@ mutual
   pub data TypedExpr : Type 0 where
     LocalPlace : (local : ℕ) (of : TypeTree) → TypedExpr
     GlobalPlace : (name : List ℕ) (place : ℕ) (of : TypeTree) → TypedExpr
-    StringPlace : (bytes : List ℕ) (of : TypeTree) → TypedExpr
+    StringPlace : (text : ℕ) (of : TypeTree) → TypedExpr
     Same : (of : TypeTree) → TypedExpr
     Member : (owner : TypedExpr) (index : ℕ) (offset : ℕ) (of : TypeTree) → TypedExpr
     Index : (left : TypedExpr) (right : TypedExpr) (pointer_left : Bool) (of : TypeTree) → TypedExpr
@@ -39,15 +39,29 @@ mutual
     NoTExprs : TypedExprs
     ConsTExpr : (first : TypedExpr) (rest : TypedExprs) → TypedExprs
 
-pub record TypedCell : Type 0 where
+-- what a part of a local object is given: the value of an expression, or the bytes of a text
+pub data TypedGiven : Type 0 where
+  GivenValue : (value : TypedExpr) → TypedGiven
+  GivenText : (text : ℕ) → TypedGiven
+
+pub record TypedInitial : Type 0 where
   pub at : ℕ
   pub of : TypeTree
-  pub value : TypedExpr
+  pub given : TypedGiven
+
+-- a name that a block declares
+pub record TypedLocalInit : Type 0 where
+  pub local : ℕ
+  pub initials : Option (List TypedInitial)
+
+pub data TypedForStart : Type 0 where
+  Declares : (names : List TypedLocalInit) → TypedForStart
+  Evaluates : (value : Option TypedExpr) → TypedForStart
 
 mutual
   pub data TypedStmt : Type 0 where
     Compound : (items : TypedStmts) → TypedStmt
-    InitLocal : (local : ℕ) (cells : List TypedCell) → TypedStmt
+    InitLocal : (name : TypedLocalInit) → TypedStmt
     Expression : (value : Option TypedExpr) → TypedStmt
     If : (test : TypedExpr) (body : TypedStmt) → TypedStmt
     IfElse : (test : TypedExpr) (when_true : TypedStmt) (when_false : TypedStmt) → TypedStmt
@@ -55,15 +69,11 @@ mutual
     DoWhile : (body : TypedStmt) (test : TypedExpr) → TypedStmt
     For : (start : TypedForStart) (test : Option TypedExpr) (step : Option TypedExpr) (body : TypedStmt) → TypedStmt
     Switch : (value : TypedExpr) (body : TypedStmt) → TypedStmt
-    Case : (value : TypedExpr) (body : TypedStmt) → TypedStmt
+    Case : (value : ℕ) (of : TypeTree) (body : TypedStmt) → TypedStmt
     Default : (body : TypedStmt) → TypedStmt
     Break : TypedStmt
     Continue : TypedStmt
     Return : (value : Option TypedExpr) → TypedStmt
-
-  pub data TypedForStart : Type 0 where
-    Declares : (names : TypedStmts) → TypedForStart
-    Evaluates : (value : Option TypedExpr) → TypedForStart
 
   pub data TypedStmts : Type 0 where
     NoTStmts : TypedStmts

@@ -2,13 +2,17 @@
 use Rattle.std.specs.Prelude.{List, [], ◌∷◌, map}
 use Rattle.std.specs.Option.{option_map}
 use Rattle.pa_ctype.specs.Types.{type_tree}
-use Rattle.pa_typed.specs.declared.stmt.Cell.{Cell}
+use Rattle.pa_typed.specs.declared.stmt.Given.{Given}
+use Rattle.pa_typed.specs.declared.stmt.Given.TheVariants as vGiven
+use Rattle.pa_typed.specs.declared.stmt.Initial.{Initial}
+use Rattle.pa_typed.specs.declared.stmt.LocalInit.{LocalInit}
 use Rattle.pa_typed.specs.declared.expr.TExpr.{TExpr, fold-TExpr}
 use Rattle.pa_typed.specs.declared.expr.TExpr.TheOpen.{TExpr-F}
-use Rattle.pa_typed.specs.declared.stmt.TForStart.{TForStart, fold-TForStart}
+use Rattle.pa_typed.specs.declared.stmt.TForStart.{TForStart}
+use Rattle.pa_typed.specs.declared.stmt.TForStart.TheVariants as vTForStart
 use Rattle.pa_typed.specs.declared.stmt.TStmt.{TStmt, fold-TStmt}
-use Rattle.pa_typed.specs.declared.stmt.TForStart.TheOpen.{TForStart-F, TStmt-F}
-use Rattle.pa_typed.specs.Typed.{TypedExpr, TypedExprs, LocalPlace, GlobalPlace, StringPlace, Same, Member, Index, Deref, Number, Load, LoadSigned, Store, StoreSigned, AddressOf, FunctionValue, Convert, Unary, Binary, PointerAdd, PointerSub, Compare, And, Or, Choose, Comma, CallDirect, CallPointer, NoTExprs, ConsTExpr, TypedCell, TypedForStart, TypedStmt, TypedStmts, Declares, Evaluates, Compound, InitLocal, Expression, If, IfElse, While, DoWhile, For, Switch, Case, Default, Break, Continue, Return, NoTStmts, ConsTStmt}
+use Rattle.pa_typed.specs.declared.stmt.TStmt.TheOpen.{TStmt-F}
+use Rattle.pa_typed.specs.Typed.{TypedExpr, TypedExprs, LocalPlace, GlobalPlace, StringPlace, Same, Member, Index, Deref, Number, Load, LoadSigned, Store, StoreSigned, AddressOf, FunctionValue, Convert, Unary, Binary, PointerAdd, PointerSub, Compare, And, Or, Choose, Comma, CallDirect, CallPointer, NoTExprs, ConsTExpr, TypedGiven, GivenValue, GivenText, TypedInitial, TypedLocalInit, TypedForStart, TypedStmt, TypedStmts, Declares, Evaluates, Compound, InitLocal, Expression, If, IfElse, While, DoWhile, For, Switch, Case, Default, Break, Continue, Return, NoTStmts, ConsTStmt}
 
 abbrev pub t_exprs_of : List TypedExpr → TypedExprs
 t_exprs_of [] = NoTExprs
@@ -17,7 +21,7 @@ t_exprs_of (t ∷ ts) = ConsTExpr t (t_exprs_of ts)
 abbrev pub t_expr_layer : TExpr-F TypedExpr → TypedExpr
 t_expr_layer (TExpr-F.LocalPlace local of) = LocalPlace local (type_tree of)
 t_expr_layer (TExpr-F.GlobalPlace name place of) = GlobalPlace name place (type_tree of)
-t_expr_layer (TExpr-F.StringPlace bytes of) = StringPlace bytes (type_tree of)
+t_expr_layer (TExpr-F.StringPlace text of) = StringPlace text (type_tree of)
 t_expr_layer (TExpr-F.Same of) = Same (type_tree of)
 t_expr_layer (TExpr-F.Member owner index offset of) = Member owner index offset (type_tree of)
 t_expr_layer (TExpr-F.Index left right pointer_left of) = Index left right pointer_left (type_tree of)
@@ -45,35 +49,39 @@ t_expr_layer (TExpr-F.CallPointer arguments function of) = CallPointer (t_exprs_
 unfoldable pub t_expr_tree : TExpr → TypedExpr
 t_expr_tree = fold-TExpr TypedExpr t_expr_layer
 
-abbrev pub cell_tree : Cell → TypedCell
-cell_tree c = record { at = c.at; of = type_tree c.of; value = t_expr_tree c.value }
+abbrev pub given_tree : Given → TypedGiven
+given_tree (vGiven.Value value) = GivenValue (t_expr_tree value)
+given_tree (vGiven.Text text) = GivenText text
+
+abbrev pub initial_tree : Initial → TypedInitial
+initial_tree i = record { at = i.at; of = type_tree i.of; given = given_tree i.given }
+
+abbrev pub local_init_tree : LocalInit → TypedLocalInit
+local_init_tree name = record { local = name.local; initials = option_map (map initial_tree) name.initials }
+
+abbrev pub t_for_start_tree : TForStart → TypedForStart
+t_for_start_tree (vTForStart.Declares names) = Declares (map local_init_tree names)
+t_for_start_tree (vTForStart.Evaluates value) = Evaluates (option_map t_expr_tree value)
 
 abbrev pub t_stmts_of : List TypedStmt → TypedStmts
 t_stmts_of [] = NoTStmts
 t_stmts_of (t ∷ ts) = ConsTStmt t (t_stmts_of ts)
 
-abbrev pub t_stmt_layer : TStmt-F TypedForStart TypedStmt → TypedStmt
+abbrev pub t_stmt_layer : TStmt-F TypedStmt → TypedStmt
 t_stmt_layer (TStmt-F.Compound items) = Compound (t_stmts_of items)
-t_stmt_layer (TStmt-F.InitLocal local cells) = InitLocal local (map cell_tree cells)
+t_stmt_layer (TStmt-F.InitLocal name) = InitLocal (local_init_tree name)
 t_stmt_layer (TStmt-F.Expression value) = Expression (option_map t_expr_tree value)
 t_stmt_layer (TStmt-F.If test body) = If (t_expr_tree test) body
 t_stmt_layer (TStmt-F.IfElse test when_true when_false) = IfElse (t_expr_tree test) when_true when_false
 t_stmt_layer (TStmt-F.While test body) = While (t_expr_tree test) body
 t_stmt_layer (TStmt-F.DoWhile body test) = DoWhile body (t_expr_tree test)
-t_stmt_layer (TStmt-F.For start test step body) = For start (option_map t_expr_tree test) (option_map t_expr_tree step) body
+t_stmt_layer (TStmt-F.For start test step body) = For (t_for_start_tree start) (option_map t_expr_tree test) (option_map t_expr_tree step) body
 t_stmt_layer (TStmt-F.Switch value body) = Switch (t_expr_tree value) body
-t_stmt_layer (TStmt-F.Case value body) = Case (t_expr_tree value) body
+t_stmt_layer (TStmt-F.Case value of body) = Case value (type_tree of) body
 t_stmt_layer (TStmt-F.Default body) = Default body
 t_stmt_layer (TStmt-F.Break) = Break
 t_stmt_layer (TStmt-F.Continue) = Continue
 t_stmt_layer (TStmt-F.Return value) = Return (option_map t_expr_tree value)
 
-abbrev pub t_for_start_layer : TForStart-F TypedForStart TypedStmt → TypedForStart
-t_for_start_layer (TForStart-F.Declares names) = Declares (t_stmts_of names)
-t_for_start_layer (TForStart-F.Evaluates value) = Evaluates (option_map t_expr_tree value)
-
 unfoldable pub t_stmt_tree : TStmt → TypedStmt
-t_stmt_tree = fold-TStmt TypedForStart TypedStmt t_for_start_layer t_stmt_layer
-
-unfoldable pub t_for_start_tree : TForStart → TypedForStart
-t_for_start_tree = fold-TForStart TypedForStart TypedStmt t_for_start_layer t_stmt_layer
+t_stmt_tree = fold-TStmt TypedStmt t_stmt_layer

@@ -3,10 +3,10 @@
 ghost use Rattle.std.specs.Prelude.{◌≡◌, ◌<◌, ◌+◌, ◌^◌, map, max};
 ghost use Rattle.std.specs.Option.{option_map};
 ghost use Rattle.pa_typed.specs.Counts as spec;
-ghost use Rattle.pa_typed.specs.Views.{t_expr_tree, t_exprs_of, t_stmt_tree, t_stmts_of, t_for_start_tree, cell_tree};
+ghost use Rattle.pa_typed.specs.Views.{t_expr_tree, t_exprs_of, t_stmt_tree, t_stmts_of, t_for_start_tree, given_tree, initial_tree, local_init_tree};
 
 use crate::expr::TExpr;
-use crate::stmt::{Cell, TForStart, TStmt};
+use crate::stmt::{Given, Initial, LocalInit, TForStart, TStmt};
 use crate::unit::{Function, Unit};
 
 /// The count of the nodes of the file's syntax tree.
@@ -117,17 +117,60 @@ fn maybe_pend(e: &Option<TExpr>) -> u64
     }
 }
 
-fn cells_pend(cells: &[Cell]) -> u64
-    requires { spec.cells_pend (map cell_tree cells.now) < 2 ^ 64 }
-    ensures { result ≡ spec.cells_pend (map cell_tree cells.now) }
+fn given_pend(given: &Given) -> u64
+    requires { spec.given_pend (given_tree given.now) < 2 ^ 64 }
+    ensures { result ≡ spec.given_pend (given_tree given.now) }
+{
+    match given {
+        Given::Value { value } => expr_pend(value),
+        Given::Text { .. } => 0,
+    }
+}
+
+fn initials_pend(initials: &[Initial]) -> u64
+    requires { spec.initials_pend (map initial_tree initials.now) < 2 ^ 64 }
+    ensures { result ≡ spec.initials_pend (map initial_tree initials.now) }
 {
     let mut largest = 0;
-    let mut rest = cells;
-    'cells: while let [cell, tail @ ..] = rest {
-        largest = expr_pend(&cell.value).max(largest);
+    let mut rest = initials;
+    'initials: while let [initial, tail @ ..] = rest {
+        largest = given_pend(&initial.given).max(largest);
         rest = tail;
     }
     largest
+}
+
+fn name_pend(name: &LocalInit) -> u64
+    requires { spec.name_pend (local_init_tree name.now) < 2 ^ 64 }
+    ensures { result ≡ spec.name_pend (local_init_tree name.now) }
+{
+    match &name.initials {
+        Some(initials) => initials_pend(initials.as_slice()),
+        None => 0,
+    }
+}
+
+fn names_pend(names: &[LocalInit]) -> u64
+    requires { spec.names_pend (map local_init_tree names.now) < 2 ^ 64 }
+    ensures { result ≡ spec.names_pend (map local_init_tree names.now) }
+{
+    let mut largest = 0;
+    let mut rest = names;
+    'names: while let [name, tail @ ..] = rest {
+        largest = name_pend(name).max(largest);
+        rest = tail;
+    }
+    largest
+}
+
+fn start_pend(start: &TForStart) -> u64
+    requires { spec.start_pend (t_for_start_tree start.now) < 2 ^ 64 }
+    ensures { result ≡ spec.start_pend (t_for_start_tree start.now) }
+{
+    match start {
+        TForStart::Declares { names } => names_pend(names.as_slice()),
+        TForStart::Evaluates { value } => maybe_pend(value),
+    }
 }
 
 #[cycle(stmt_pend)]
@@ -146,25 +189,13 @@ fn stmts_pend(stmts: &[TStmt]) -> u64
 
 #[cycle(stmt_pend)]
 #[tactic(auto, using(crate::proofs::Views::typed_stmt_views))]
-fn start_pend(start: &TForStart) -> u64
-    requires { spec.start_pend (t_for_start_tree start.now) < 2 ^ 64 }
-    ensures { result ≡ spec.start_pend (t_for_start_tree start.now) }
-{
-    match start {
-        TForStart::Declares { names } => stmts_pend(names.as_slice()),
-        TForStart::Evaluates { value } => maybe_pend(value),
-    }
-}
-
-#[cycle(stmt_pend)]
-#[tactic(auto, using(crate::proofs::Views::typed_stmt_views))]
 fn stmt_pend(stmt: &TStmt) -> u64
     requires { spec.stmt_pend (t_stmt_tree stmt.now) < 2 ^ 64 }
     ensures { result ≡ spec.stmt_pend (t_stmt_tree stmt.now) }
 {
     match stmt {
         TStmt::Compound { items } => stmts_pend(items.as_slice()),
-        TStmt::InitLocal { cells, .. } => cells_pend(cells.as_slice()),
+        TStmt::InitLocal { name } => name_pend(name),
         TStmt::Expression { value } | TStmt::Return { value } => maybe_pend(value),
         TStmt::If { test, body } | TStmt::While { test, body } | TStmt::DoWhile { body, test } => {
             expr_pend(test).max(stmt_pend(body.get()))
@@ -185,9 +216,8 @@ fn stmt_pend(stmt: &TStmt) -> u64
             .max(maybe_pend(test))
             .max(maybe_pend(step))
             .max(stmt_pend(body.get())),
-        TStmt::Switch { value, body } | TStmt::Case { value, body } => {
-            expr_pend(value).max(stmt_pend(body.get()))
-        }
+        TStmt::Switch { value, body } => expr_pend(value).max(stmt_pend(body.get())),
+        TStmt::Case { body, .. } => stmt_pend(body.get()).max(1),
         TStmt::Default { body } => stmt_pend(body.get()),
         TStmt::Break | TStmt::Continue => 0,
     }

@@ -1,5 +1,5 @@
 use pa_ctype::CType;
-use pa_num::{Bytes, Name};
+use pa_num::Name;
 use pa_pac::Schema;
 use sqlite_items::{Boxed, Items};
 
@@ -43,7 +43,8 @@ pub enum Comparison {
 }
 
 /// An expression of C with its type `of`, each conversion written out. The first six and `Deref` stand for places (C11 6.3.2.1),
-/// the others for values. The parts stand in the order in which they are evaluated.
+/// `Choose` and `Comma` for places where `of` is a struct, and all others for values. The parts stand in the order in which they
+/// are evaluated.
 #[derive(Drop)]
 pub enum TExpr {
     /// A local of the function, by its number.
@@ -57,9 +58,10 @@ pub enum TExpr {
         place: u64,
         of: CType,
     },
-    /// A string literal, without the zero at its end.
+    /// A string literal, by its number among the texts of the unit or program. Two literals are two objects, also where their
+    /// bytes are the same.
     StringPlace {
-        bytes: Bytes,
+        text: u32,
         of: CType,
     },
     /// The place of the innermost store around it, which is evaluated once.

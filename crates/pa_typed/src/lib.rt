@@ -8,7 +8,8 @@ mod unit;
 
 pub use counts::{local_bytes, nodes, pend, weight};
 pub use expr::{BinaryOperation, Comparison, TExpr, UnaryOperation};
-pub use stmt::{Cell, Cells, TForStart, TStmt};
+pub use stmt::{Given, Initial, Initials, LocalInit, LocalInits, TForStart, TStmt};
 pub use unit::{
-    CGlobal, CGlobals, CLocal, CLocals, Declared, Declareds, Function, Functions, Program, Unit,
+    CGlobal, CGlobals, CLocal, CLocals, Cell, Cells, Declared, Declareds, Function, Functions,
+    Program, Texts, Unit,
 };

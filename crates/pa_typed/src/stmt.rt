@@ -3,29 +3,58 @@ use pa_ctype::CType;
 use pa_num::Sequence;
 use sqlite_items::{Boxed, Items};
 
-/// A cell of an object (a part of a scalar type, at this offset in bytes) and the value that it gets.
+/// What a part of a local object is given.
 #[derive(Drop)]
-pub struct Cell {
-    pub at: u64,
-    pub of: CType,
-    pub value: TExpr,
+pub enum Given {
+    /// The value of an expression. The part is of a scalar type.
+    Value { value: TExpr },
+    /// The bytes of a string literal (C11 6.7.9p14), by its number among the texts of the unit or program, and zeros behind
+    /// them; as many as the array has. The part is an array of characters.
+    Text { text: u32 },
 }
 
-/// Cells, ascending.
-pub type Cells = Sequence<Cell>;
+/// A part of a local object, at this offset in bytes, and what it is given.
+#[derive(Drop)]
+pub struct Initial {
+    pub at: u64,
+    pub of: CType,
+    pub given: Given,
+}
+
+/// Parts of one object, ascending.
+pub type Initials = Sequence<Initial>;
+
+/// A name that a block declares. Its local lives from the entry of its block on (C11 6.2.4p6). Here the parts that its
+/// initializer names are given their values, and all others zero (C11 6.7.9p21). None: it has no initializer, and nothing is
+/// given.
+#[derive(Drop)]
+pub struct LocalInit {
+    pub local: u32,
+    pub initials: Option<Initials>,
+}
+
+/// Names in the order in which they are declared.
+pub type LocalInits = Sequence<LocalInit>;
+
+/// The first part of a `for` (C11 6.8.5.3).
+#[derive(Drop)]
+pub enum TForStart {
+    /// The names that it declares.
+    Declares { names: LocalInits },
+    /// An expression or none.
+    Evaluates { value: Option<TExpr> },
+}
 
 /// A statement of C (6.8) over typed expressions.
-#[cycle(typed)]
 #[derive(Drop)]
 pub enum TStmt {
     /// `{ items }`.
     Compound {
         items: Items<TStmt>,
     },
-    /// A name that a block declares: its local comes to life, and the cells that its initializer names get their values.
+    /// A name that a block declares.
     InitLocal {
-        local: u32,
-        cells: Cells,
+        name: LocalInit,
     },
     /// An expression or none.
     Expression {
@@ -64,9 +93,11 @@ pub enum TStmt {
         value: TExpr,
         body: Boxed<TStmt>,
     },
-    /// `case value : body`, the value a number of the switch's promoted type.
+    /// `case value : body`. The value is of the switch's promoted type `of`, in 64 bits of two's complement. It counts as one
+    /// expression, a number.
     Case {
-        value: TExpr,
+        value: u64,
+        of: CType,
         body: Boxed<TStmt>,
     },
     /// `default : body`.
@@ -81,14 +112,4 @@ pub enum TStmt {
     Return {
         value: Option<TExpr>,
     },
-}
-
-/// The first part of a `for`.
-#[cycle(typed)]
-#[derive(Drop)]
-pub enum TForStart {
-    /// The names that it declares, each an `InitLocal`.
-    Declares { names: Items<TStmt> },
-    /// An expression or none.
-    Evaluates { value: Option<TExpr> },
 }

@@ -1,6 +1,22 @@
-use crate::stmt::{Cells, TStmt};
+use crate::expr::TExpr;
+use crate::stmt::TStmt;
 use pa_ctype::{CType, Structs};
-use pa_num::{Name, Sequence};
+use pa_num::{Bytes, Name, Sequence};
+
+/// A cell of a global (a part of a scalar type, at this offset in bytes) and the value that it gets.
+#[derive(Drop)]
+pub struct Cell {
+    pub at: u64,
+    pub of: CType,
+    pub value: TExpr,
+}
+
+/// Cells, ascending.
+pub type Cells = Sequence<Cell>;
+
+/// String literals by their numbers from 0, each without the zero at its end: those that are a `StringPlace` or are given to a
+/// part of a local object, in order of appearance.
+pub type Texts = Sequence<Bytes>;
 
 /// An object of a function: a parameter, or a name that a block declares. `size` and `align` are those of its type, in bytes.
 #[derive(Drop)]
@@ -29,7 +45,7 @@ pub struct Function {
 /// Functions in order.
 pub type Functions = Sequence<Function>;
 
-/// An object at file level. Its `cells` are the initialized ones.
+/// An object at file level. Its `cells` are the initialized ones, those of a string that initializes an array among them.
 #[derive(Drop)]
 pub struct CGlobal {
     pub name: Name,
@@ -63,15 +79,18 @@ pub struct Unit {
     pub globals: CGlobals,
     pub declared: Declareds,
     pub structs: Structs,
+    pub texts: Texts,
     pub nodes: u64,
 }
 
-/// The units of a program together.
+/// The units of a program together, one behind the other: ids of structs and numbers of texts are raised by the counts of those
+/// before.
 #[derive(Drop)]
 pub struct Program {
     pub functions: Functions,
     pub globals: CGlobals,
     pub declared: Declareds,
     pub structs: Structs,
+    pub texts: Texts,
     pub nodes: u64,
 }

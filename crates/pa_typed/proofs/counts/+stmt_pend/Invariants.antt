@@ -1,7 +1,7 @@
 use Rattle.std.proofs.Common.{◌≡◌, ◌≤◌, length, map, max}
 use Rattle.pa_typed.specs.Counts.{stmts_pend}
-use Rattle.pa_typed.specs.Views.{t_stmt_tree, t_stmts_of, t_for_start_tree}
-use Rattle.pa_typed.proofs.Sizes.{stmt_size, start_size, stmts_size}
+use Rattle.pa_typed.specs.Views.{t_stmt_tree, t_stmts_of}
+use Rattle.pa_typed.proofs.Sizes.{stmt_size, stmts_size}
 use Rattle.pa_typed.proofs.counts.+stmt_pend.Given as goal
 
 abbrev pub invariant-stmts_pend-stmts : goal.invariant-stmts_pend-stmts
@@ -15,9 +15,6 @@ decreases-stmts_pend-stmts l = length l.rest
 
 abbrev pub decreases-stmt_pend : goal.decreases-stmt_pend
 decreases-stmt_pend l = stmt_size (t_stmt_tree l.stmt.now)
-
-abbrev pub decreases-start_pend : goal.decreases-start_pend
-decreases-start_pend l = start_size (t_for_start_tree l.start.now)
 
 abbrev pub decreases-stmts_pend : goal.decreases-stmts_pend
 decreases-stmts_pend l = stmts_size (t_stmts_of (map t_stmt_tree l.stmts.now))

@@ -1,0 +1,16 @@
+use Rattle.std.proofs.Common.{◌≡◌, ◌≤◌, length}
+use Rattle.std.specs.Option.{option_and_then}
+use Rattle.pa_ctype.specs.Kept.{kept_layout}
+use Rattle.pa_ctype.specs.Layouts.{layout_by, members_from, padded, fields_of, empty, most_bytes}
+use Rattle.pa_ctype.proofs.sizes.laid_members.Given as goal
+
+abbrev pub invariant-members : goal.invariant-members
+invariant-members l = record {
+  same : option_and_then padded (members_from (layout_by (kept_layout l.bodies)) l.so_far (fields_of l.rest)) ≡ option_and_then padded (members_from (layout_by (kept_layout l.bodies)) empty (fields_of l.members));
+  bytes : l.so_far.size ≤ most_bytes;
+  positive : 1 ≤ l.so_far.align;
+  align : l.so_far.align ≤ 8;
+}
+
+abbrev pub decreases-members : goal.decreases-members
+decreases-members l = length l.rest

@@ -1,0 +1,9 @@
+pub mod Fetched
+pub mod Filled
+pub mod Going
+pub mod Imports
+pub mod Kept
+pub mod Laws
+pub mod Regions
+pub mod Slots
+pub mod Whole

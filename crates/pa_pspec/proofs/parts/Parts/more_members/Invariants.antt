@@ -1,0 +1,17 @@
+use Rattle.std.proofs.Common.{◌≡◌, ◌≤◌, ◌-◌, ◌∷◌, [], length, map}
+use Rattle.pa_tree.specs.Views.{member_tree}
+use Rattle.pa_reading.specs.Parser.{many}
+use Rattle.pa_reading.specs.Parts.{height_of_members}
+use Rattle.pa_reading.specs.Reading.{parsers, member, not_brace}
+use Rattle.pa_pspec.proofs.parts.Parts.more_members.Given as goal
+
+abbrev pub invariant-members : goal.invariant-members
+invariant-members g l = record {
+  same : many not_brace (member (l.self.names).now l.self.depth (parsers (l.self.names).now l.self.depth) (parsers (l.self.names).now (l.self.depth - 1))) (map member_tree l.all) l.r
+      ≡ many not_brace (member (l.self.names).now l.self.depth (parsers (l.self.names).now l.self.depth) (parsers (l.self.names).now (l.self.depth - 1))) (member_tree (l.fn.first).0 ∷ []) l.initial.r;
+  high : l.height ≡ height_of_members (map member_tree l.all);
+  fits : l.height ≤ l.self.depth - 1;
+}
+
+abbrev pub decreases-members : goal.decreases-members
+decreases-members g l = length (l.r).ahead

@@ -1,0 +1,4 @@
+pub mod Bodies
+pub mod Counted
+pub mod Suffixes
+pub mod Voids

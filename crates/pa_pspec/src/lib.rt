@@ -1,0 +1,13 @@
+//! Specifiers and declarators of C over the readers of their parts, each function equal to its part of the reading.
+#![tactic(auto)]
+
+mod body;
+mod declarators;
+mod parameter;
+mod parts;
+mod qualifier;
+mod specifier;
+mod word;
+
+pub use declarators::bare_declarator;
+pub use parts::Parts;

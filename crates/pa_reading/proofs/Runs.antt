@@ -1,0 +1,214 @@
+-- From what is read at a place to what is answered there.
+use Rattle.std.proofs.Common.{◌≡◌, ◌≢◌, ◌≤◌, ◌<◌, ◌-◌, ◌+◌, ℕ, zero, suc, max, List, [], ◌∷◌, ◌++◌, length, take, drop, Option, Some, None, Result, Ok, Err, refl, sym, ◌∙◌, ap, subst, arith, append_assoc}
+use Rattle.std.specs.Prelude.{slice_get}
+use Rattle.std.proofs.lemmas.List.{take-append-drop, drop-append-le, length-append, length-take, length-drop}
+use Rattle.std.proofs.Math.Nat.{le-max_left, le-max_right}
+use Rattle.std.proofs.Math.Seq.{drop-append_seam}
+use Rattle.pa_lex.specs.declared.token.Token.{Token}
+use Rattle.pa_tree.specs.Cursors.{Cursor, head}
+use Rattle.pa_num.specs.declared.fault.Fault.{Fault}
+use Rattle.pa_num.specs.declared.fault.Fault.TheVariants.{Refused}
+use Rattle.pa_reading.specs.declared.rule.SynRule.{SynRule}
+use Rattle.pa_reading.specs.declared.rule.SynRule.TheVariants.{S1, S2}
+use Rattle.pa_reading.specs.declared.rule.ParseError.{ParseError}
+use Rattle.pa_reading.specs.declared.rule.ParseError.TheVariants.{Broken}
+use Rattle.pa_reading.specs.Answers.{to_of, ended_at, cursor_at, place_at, NoneGoesOn, NoneBegins, Any, Fitting, IsLongest, IsRefused, IsAnswer}
+use Rattle.pa_reading.specs.Parser.{Parser, Outcome, Stop}
+use Rattle.pa_reading.proofs.Local.{Local, LocalAt, Gives, Stops, with_ahead}
+use Rattle.pa_reading.proofs.Meets.{Meets, IfRead}
+use Rattle.pa_reading.proofs.Frame.{on}
+
+-- the token of a number stands first behind those in front of it
+pub get_at : (n : ℕ) (ts : List Token) → slice_get ts n ≡ head (drop n ts)
+get_at zero [] = refl
+get_at zero (t ∷ ts) = refl
+get_at (suc n) [] = refl
+get_at (suc n) (t ∷ ts) = get_at n ts
+
+get_front : (n end : ℕ) (ts : List Token) → n < end → slice_get (take end ts) n ≡ slice_get ts n
+get_front n zero ts h = absurd (omega (arith, h))
+get_front n (suc e) [] h = refl
+get_front zero (suc e) (t ∷ ts) h = refl
+get_front (suc n) (suc e) (t ∷ ts) h = get_front n e ts (omega (arith, h))
+
+ended_front : (at end : ℕ) (ts : List Token) → at ≤ end → ended_at (take end ts) at ≡ ended_at ts at
+ended_front zero end ts h = refl
+ended_front (suc n) end ts h = ap to_of (get_front n end ts (omega (arith, h)))
+
+-- how many tokens stand in front of those that are left
+pub left_of : (at : ℕ) (tokens front rest : List Token) → drop at tokens ≡ front ++ rest → drop (length tokens - length rest) tokens ≡ rest
+left_of at tokens front rest h =
+    let whole : tokens ≡ (take at tokens ++ front) ++ rest = sym (take-append-drop at tokens) ∙ ap (λ l. take at tokens ++ l) h ∙ sym (append_assoc (take at tokens) front rest) in
+    let count : length tokens ≡ length (take at tokens ++ front) + length rest = ap length whole ∙ length-append (take at tokens ++ front) rest in
+    let n : length tokens - length rest ≡ length (take at tokens ++ front) = omega (arith, count) in
+    ap (λ k. drop k tokens) n ∙ ap (drop (length (take at tokens ++ front))) whole ∙ drop-append_seam (take at tokens ++ front) rest
+
+front_behind : (at end : ℕ) (tokens : List Token) → at ≤ end → end ≤ length tokens → drop at (take end tokens) ++ drop end tokens ≡ drop at tokens
+front_behind at end tokens h k =
+    let n : at ≤ length (take end tokens) = omega (arith, h, k, length-take end tokens) in
+    sym (drop-append-le at (take end tokens) (drop end tokens) n) ∙ ap (drop at) (take-append-drop end tokens)
+
+-- the tokens in front of a place and then those from it on
+pub behind_front : (at end : ℕ) (tokens : List Token) → at ≤ end → end ≤ length tokens → on (drop end tokens) (cursor_at (take end tokens) at) ≡ cursor_at tokens at
+behind_front at end tokens h k = ap (λ z. record { ended = z; ahead = drop at (take end tokens) ++ drop end tokens }) (ended_front at end tokens h) ∙ ap (λ l. record { ended = ended_at tokens at; ahead = l }) (front_behind at end tokens h k)
+
+none_left : (ts : List Token) → length ts ≡ 0 → ts ≡ []
+none_left [] e = refl
+none_left (t ∷ ts) e = absurd (omega (arith, e))
+
+ok_ahead : {A : Type 0} {x y : A} {c d : Cursor} → ◌≡◌ {A = Result (A × Cursor) Stop} (Ok (x, c)) (Ok (y, d)) → c.ahead ≡ d.ahead
+ok_ahead {A = A} {x = x} {y = y} {c = c} {d = d} e = let r : ◌≡◌ {A = A × Cursor} (x, c) (y, d) = cc in ap (λ z. (z.1).ahead) r
+
+no_token : (t : Token) (ts : List Token) → Some t ≡ head ts → ts ≡ [] → ⊥
+no_token t ts h e = let n : ◌≡◌ {A = Option Token} (Some t) None = h ∙ ap head e in cc
+
+gives_of : {A : Type 0} (p : Parser A) (c e : Cursor) (t : A) → LocalAt p c (p c) → p c ≡ Ok (t, e) → Gives p c t e
+gives_of p c e t h q = rw q at h
+
+stops_of : {A : Type 0} (p : Parser A) (c : Cursor) (s : Stop) → LocalAt p c (p c) → p c ≡ Err s → Stops p c s
+stops_of p c s h q = rw q at h
+
+-- a reader of a form of trees, to a depth
+module _ {A : Type 0} (Spelled : A → Cursor → Cursor → Type 0) (height : A → ℕ) (room : ℕ) (p : Parser A) where
+  pub record Reader : Type 0 where
+    pub near : Local p
+    pub sound : (c : Cursor) → Meets p c (λ t e. Spelled t c e × (height t ≤ room))
+    pub complete : (t : A) (c : Cursor) (z : ℕ) → Spelled t c (record { ended = z; ahead = [] }) → height t ≤ room → p c ≡ Ok (t, record { ended = z; ahead = [] })
+    pub frame : (x : List Token) (t : A) (c d : Cursor) → Spelled t c d → Spelled t (on x c) (on x d)
+
+  sound_of : (c e : Cursor) (t : A) → Meets p c (λ t e. Spelled t c e × (height t ≤ room)) → p c ≡ Ok (t, e) → Spelled t c e × (height t ≤ room)
+  sound_of c e t h q = let g = h.holds in rw q at g
+
+  module _ (r : Reader) where
+    -- no longer list begins a tree where one is read
+    ends_there : (c e : Cursor) (t : A) (g : Gives p c t e) (u : Token) → head e.ahead ≡ Some u → NoneGoesOn Spelled (Fitting Spelled height room) c.ended g.front (Some u)
+    ends_there c e t g u h = record {
+      none = λ tree more to w s l.
+          no_token u more w (ok_ahead (sym (g.again more (h ∙ w)) ∙ r.complete tree (record { ended = c.ended; ahead = g.front ++ more }) to s l));
+    }
+
+    stops_there : (c : Cursor) (s : Stop) (g : Stops p c s) → NoneGoesOn Spelled (Fitting Spelled height room) c.ended g.front (head (s.at).ahead)
+    stops_there c s g = record {
+      none = λ tree more to w h l.
+          let a = g.again more w in let b = r.complete tree (record { ended = c.ended; ahead = g.front ++ more }) to h l in cc;
+    }
+
+    pub read_whole : (tokens : List Token) (at : ℕ) (t : A) (e : Cursor) → p (cursor_at tokens at) ≡ Ok (t, e) → IsLongest Spelled height room tokens at t (length tokens - length e.ahead)
+    read_whole tokens at t e q =
+        let g = gives_of p (cursor_at tokens at) e t (r.near.holds (cursor_at tokens at)) q in
+        let s = sound_of (cursor_at tokens at) e t (r.sound (cursor_at tokens at)) q in
+        let d : drop (length tokens - length e.ahead) tokens ≡ e.ahead = left_of at tokens g.front e.ahead g.split in
+        record {
+          within = omega arith;
+          run = g.front;
+          split = g.split ∙ ap (λ l. g.front ++ l) (sym d);
+          to = e.ended;
+          spells = subst (λ l. Spelled t (cursor_at tokens at) (record { ended = e.ended; ahead = l })) (sym d) s.0;
+          fits = s.1;
+          longest = λ u h. ends_there (cursor_at tokens at) e t g u (sym (ap head d) ∙ sym (get_at (length tokens - length e.ahead) tokens) ∙ h);
+        }
+
+    -- No such tree begins so, where none goes on behind what is read.
+    stopped : (such : A → Type 0) (tokens : List Token) (at place : ℕ) (s : Stop) (g : Stops p (cursor_at tokens at) s) → NoneGoesOn Spelled such (ended_at tokens at) g.front (head (s.at).ahead)
+        → place ≡ place_at tokens (length tokens - length (s.at).ahead) → NoneBegins Spelled such tokens at place
+    stopped such tokens at place s g h i =
+        let d : drop (length tokens - length (s.at).ahead) tokens ≡ (s.at).ahead = left_of at tokens g.front (s.at).ahead g.split in
+        record {
+          end = length tokens - length (s.at).ahead;
+          within = omega arith;
+          run = g.front;
+          split = g.split ∙ ap (λ l. g.front ++ l) (sym d);
+          place_is = i;
+          refused = subst (NoneGoesOn Spelled such (ended_at tokens at) g.front) (sym (ap head d) ∙ sym (get_at (length tokens - length (s.at).ahead) tokens)) h;
+        }
+
+    stop_within : (tokens : List Token) (at : ℕ) (s : Stop) → at ≤ length tokens → p (cursor_at tokens at) ≡ Err s → at ≤ length tokens - length (s.at).ahead
+    stop_within tokens at s k q =
+        let g = stops_of p (cursor_at tokens at) s (r.near.holds (cursor_at tokens at)) q in
+        let n = ap length g.split ∙ length-append g.front (s.at).ahead in omega (arith, k, n, length-drop at tokens)
+
+    -- where reading stops behind a whole tree
+    pub read_front : (tokens : List Token) (at : ℕ) (s : Stop) (t : A) (e : Cursor) → at ≤ length tokens → p (cursor_at tokens at) ≡ Err s
+        → p (cursor_at (take (length tokens - length (s.at).ahead) tokens) at) ≡ Ok (t, e) → e.ahead ≡ [] → IsLongest Spelled height room tokens at t (length tokens - length (s.at).ahead)
+    read_front tokens at s t e k q f n =
+        let end = length tokens - length (s.at).ahead in
+        let g = stops_of p (cursor_at tokens at) s (r.near.holds (cursor_at tokens at)) q in
+        let i : at ≤ end = stop_within tokens at s k q in
+        let w : end ≤ length tokens = omega arith in
+        let h = sound_of (cursor_at (take end tokens) at) e t (r.sound (cursor_at (take end tokens) at)) f in
+        let d : drop end tokens ≡ (s.at).ahead = left_of at tokens g.front (s.at).ahead g.split in
+        let o = r.frame (drop end tokens) t (cursor_at (take end tokens) at) e h.0 in
+        record {
+          within = w;
+          run = g.front;
+          split = g.split ∙ ap (λ l. g.front ++ l) (sym d);
+          to = e.ended;
+          spells = subst (λ x. Spelled t x (record { ended = e.ended; ahead = drop end tokens })) (behind_front at end tokens i w)
+              (subst (λ l. Spelled t (on (drop end tokens) (cursor_at (take end tokens) at)) (record { ended = e.ended; ahead = l ++ drop end tokens })) n o);
+          fits = h.1;
+          longest = λ u v. subst (NoneGoesOn Spelled (Fitting Spelled height room) (ended_at tokens at) g.front) (sym (ap head d) ∙ sym (get_at end tokens) ∙ v) (stops_there (cursor_at tokens at) s g);
+        }
+
+    -- the same, as a program comes to it: its reader stands at c, and so many tokens are left
+    module _ (tokens : List Token) (at : ℕ) (c : Cursor) (is : c ≡ cursor_at tokens at) where
+      from_start : (o : Outcome A) → p c ≡ o → p (cursor_at tokens at) ≡ o
+      from_start o h = ap p (sym is) ∙ h
+
+      pub read_within : (t : A) (e : Cursor) (n : ℕ) → p c ≡ Ok (t, e) → n ≡ length e.ahead → n ≤ length tokens
+      read_within t e n h q =
+          let g = gives_of p (cursor_at tokens at) e t (r.near.holds (cursor_at tokens at)) (from_start (Ok (t, e)) h) in
+          let a = ap length g.split ∙ length-append g.front e.ahead in omega (arith, a, q, length-drop at tokens)
+
+      pub answer_read : (t : A) (e : Cursor) (n : ℕ) → p c ≡ Ok (t, e) → n ≡ length e.ahead → IsLongest Spelled height room tokens at t (length tokens - n)
+      answer_read t e n h q = subst (λ k. IsLongest Spelled height room tokens at t (length tokens - k)) (sym q) (read_whole tokens at t e (from_start (Ok (t, e)) h))
+
+      module _ (s : Stop) (n : ℕ) (h : p c ≡ Err s) (q : n ≡ length (s.at).ahead) where
+        pub stop_left : n ≤ length tokens
+        stop_left =
+            let g = stops_of p (cursor_at tokens at) s (r.near.holds (cursor_at tokens at)) (from_start (Err s) h) in
+            let a = ap length g.split ∙ length-append g.front (s.at).ahead in omega (arith, a, q, length-drop at tokens)
+
+        pub stop_behind : at ≤ length tokens → at ≤ length (take (length tokens - n) tokens)
+        stop_behind k = let a = stop_within tokens at s k (from_start (Err s) h) in omega (arith, a, q, length-take (length tokens - n) tokens)
+
+        pub answer_front : (d : Cursor) (t : A) (e : Cursor) → at ≤ length tokens → d ≡ cursor_at (take (length tokens - n) tokens) at → p d ≡ Ok (t, e) → length e.ahead ≡ 0 → IsLongest Spelled height room tokens at t (length tokens - n)
+        answer_front d t e k b f z =
+            let f' : p (cursor_at (take (length tokens - length (s.at).ahead) tokens) at) ≡ Ok (t, e) = ap (λ m. p (cursor_at (take (length tokens - m) tokens) at)) (sym q) ∙ ap p (sym b) ∙ f in
+            subst (λ m. IsLongest Spelled height room tokens at t (length tokens - m)) (sym q) (read_front tokens at s t e k (from_start (Err s) h) f' (none_left e.ahead z))
+
+        stop_place : (place : ℕ) → place ≡ place_at tokens (length tokens - n) → place ≡ place_at tokens (length tokens - length (s.at).ahead)
+        stop_place place e = e ∙ ap (λ m. place_at tokens (length tokens - m)) q
+
+        pub stop_deep : (place : ℕ) → place ≡ place_at tokens (length tokens - n) → NoneBegins Spelled (Fitting Spelled height room) tokens at place
+        stop_deep place e =
+            let g = stops_of p (cursor_at tokens at) s (r.near.holds (cursor_at tokens at)) (from_start (Err s) h) in
+            stopped (Fitting Spelled height room) tokens at place s g (stops_there (cursor_at tokens at) s g) (stop_place place e)
+
+-- a reader of a form of trees for each depth, where more depth changes no refusal but those by depth
+module _ {A : Type 0} (Spelled : A → Cursor → Cursor → Type 0) (height : A → ℕ) (p : ℕ → Parser A) where
+  pub record Readers : Type 0 where
+    pub of : (room : ℕ) → Reader Spelled height room (p room)
+    pub stops : (room more : ℕ) (c : Cursor) (s : Stop) → room ≤ more → s.rule ≢ Broken S2 → p room c ≡ Err s → p more c ≡ Err s
+
+  module _ (rs : Readers) (room : ℕ) where
+    stops_for_all : (c : Cursor) (s : Stop) (g : Stops (p room) c s) → s.rule ≢ Broken S2 → NoneGoesOn Spelled Any c.ended g.front (head (s.at).ahead)
+    stops_for_all c s g n = record {
+      none = λ tree more to w h _.
+          let d = max room (height tree) in
+          let a = rs.stops room d (record { ended = c.ended; ahead = g.front ++ more }) (record { rule = s.rule; at = with_ahead s.at more }) (le-max_left room (height tree)) n (g.again more w) in
+          let b = (rs.of d).complete tree (record { ended = c.ended; ahead = g.front ++ more }) to h (le-max_right room (height tree)) in cc;
+    }
+
+    module _ (tokens : List Token) (at : ℕ) (c : Cursor) (is : c ≡ cursor_at tokens at) (e : ParseError) (to : Cursor) (n : ℕ) (h : p room c ≡ Err (record { rule = e; at = to })) (q : n ≡ length to.ahead) where
+      stop_all : e ≢ Broken S2 → (place : ℕ) → place ≡ place_at tokens (length tokens - n) → NoneBegins Spelled Any tokens at place
+      stop_all b place i =
+          let s : Stop = record { rule = e; at = to } in
+          let g = stops_of (p room) (cursor_at tokens at) s (((rs.of room).near).holds (cursor_at tokens at)) (ap (p room) (sym is) ∙ h) in
+          stopped Spelled height room (p room) (rs.of room) Any tokens at place s g (stops_for_all (cursor_at tokens at) s g b) (i ∙ ap (λ m. place_at tokens (length tokens - m)) q)
+
+      is_refused : (rule : SynRule) → e ≡ Broken rule → (place : ℕ) → place ≡ place_at tokens (length tokens - n) → IsRefused Spelled height room tokens at rule place
+      is_refused S1 b place i = stop_all (λ w. cc) place i
+      is_refused S2 b place i = stop_deep Spelled height room (p room) (rs.of room) tokens at c is (record { rule = e; at = to }) n h q place i
+
+      pub answer_stop : {B : Type 0} (tree : B → A) (rule : SynRule) (f : Fault SynRule) → e ≡ Broken rule → f ≡ Refused rule (place_at tokens (length tokens - n)) → IsAnswer Spelled height room tree tokens at (Err f)
+      answer_stop tree rule f b i = subst (λ g. IsAnswer Spelled height room tree tokens at (Err g)) (sym i) (is_refused rule b (place_at tokens (length tokens - n)) refl)

@@ -1,0 +1,11 @@
+pub mod Answers
+pub mod Commas
+pub mod Infixes
+pub mod Inside
+pub mod Nests
+pub mod Noted
+pub mod Parser
+pub mod Parts
+pub mod Reading
+pub mod Reads
+pub mod Tokens

@@ -1,0 +1,5 @@
+pub mod Stub
+pub mod Calls
+pub mod Whole
+pub mod Fits
+pub mod Legal
