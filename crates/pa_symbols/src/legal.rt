@@ -153,8 +153,8 @@ fn are_distinct(marks: &[Mark]) -> bool
 /// Whether some symbols and strings stand for the marks. It takes no memory but a table of fixed size (768 KiB) on the stack.
 ///
 /// The answer is exact; the table only saves time. A public name is compared with those before it where all of its three bits
-/// are taken: of 60,000 names one in a million is by chance, of 500,000, which is what an image of 16 MiB has room for, one in
-/// 400. The hashes are keyed by the public names themselves, so names can't be picked so that more are.
+/// are taken: by chance that is one in 170,000 where there are 60,000, and one in 400 where there are 500,000, which is what an
+/// image of 16 MiB has room for. The hashes are keyed by the public names themselves, so names can't be picked so that more are.
 pub fn legal_marks(marks: &[Mark], text: TextAt) -> bool
     ensures { IsTrue result ↔ AreLegal text marks.now }
 {
