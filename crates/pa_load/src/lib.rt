@@ -6,6 +6,8 @@ mod filling;
 mod loading;
 mod rule;
 mod segments;
+#[cfg(test)]
+mod tests;
 
 pub use loading::load;
 pub use pa_processor::Loaded;
