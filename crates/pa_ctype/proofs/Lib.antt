@@ -8,4 +8,6 @@ pub mod Laws
 pub mod Objects
 pub mod Raised
 pub mod Results
+pub mod Sameness
+pub mod Variants
 pub mod Views

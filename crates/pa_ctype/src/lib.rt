@@ -3,6 +3,7 @@
 
 mod copy;
 mod ctype;
+mod equality;
 mod sizes;
 mod structs;
 
