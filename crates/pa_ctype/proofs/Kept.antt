@@ -15,7 +15,7 @@ use Rattle.pa_ctype.specs.Layouts.{Field, Body, body_of, small, placed, padded, 
 use Rattle.pa_ctype.proofs.Laws.{then_some, layout_by_same, members_from_same, structs_at, structs_fine, laid_fine}
 use Rattle.pa_ctype.proofs.Depth.{laid_end}
 
-multiple_at_least : (n align : ℕ) → n ≤ next_multiple_of n align
+pub multiple_at_least : (n align : ℕ) → n ≤ next_multiple_of n align
 multiple_at_least n align = omega arith
 
 -- members only add bytes

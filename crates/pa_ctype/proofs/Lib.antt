@@ -1,4 +1,5 @@
 pub mod Bounds
+pub mod Cells
 pub mod Copies
 pub mod Depth
 pub mod Examples
