@@ -54,10 +54,6 @@ abbrev pub stub : ℕ → List Instr
 stub pages =
     Adrp 17 (pos pages) ∷ SumImmediate Add 17 17 0 false ∷ LoadStore Ldr 16 17 0 ∷ BranchAuthenticated Braa 16 17 ∷ []
 
--- what the stub leads to in the runtime image: prints the low byte of x0
-abbrev pub putchar : List Instr
-putchar = Stack Pacibsp ∷ Exception Svc 1 ∷ Stack Retab ∷ []
-
 -- ---- places, counted from the image's first byte
 
 abbrev pub text_place : ℕ

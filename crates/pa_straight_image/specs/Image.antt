@@ -1,5 +1,5 @@
 -- The image of a program of the first form (mach-o/loader.h; mach-o/fixup-chains.h, pointer format 1).
-use Rattle.std.specs.Prelude.{ℕ, ◌*◌, List, [], ◌∷◌, length, map, true, codes}
+use Rattle.std.specs.Prelude.{◌≡◌, ℕ, ◌*◌, List, [], ◌∷◌, length, map, true, codes}
 use Rattle.pa_pac.specs.declared.key.Key.TheVariants.{IA}
 use Rattle.pa_a64.specs.Decoding.{encoded}
 use Rattle.pa_object.specs.declared.object.Mark.{Mark}
@@ -8,6 +8,7 @@ use Rattle.pa_fixups.specs.declared.kind.Fix.{Fix}
 use Rattle.pa_fixups.specs.declared.kind.FixKind.TheVariants.{AuthBind}
 use Rattle.pa_image.specs.declared.image.Image.{Image}
 use Rattle.pa_straight.specs.declared.source.Straight.{Straight}
+use Rattle.pa_straight.specs.Source.{IsSource}
 use Rattle.pa_straight_image.specs.Code.{text, stub, pages_between}
 
 -- what a program has once, where it prints
@@ -38,3 +39,7 @@ image_of s = record {
   imports = imports_of s;
   fixes = once s.prints (putchar_slot ∷ []);
 }
+
+-- the image of some program
+abbrev pub IsProgram : Image → Type 0
+IsProgram image = (s : Straight) × IsSource s × (image ≡ image_of s)

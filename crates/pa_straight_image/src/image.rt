@@ -5,6 +5,7 @@ ghost use Rattle.pa_image.specs.Writing.{IsLegal};
 ghost use Rattle.pa_straight.specs.Source.{IsSource};
 ghost use Rattle.pa_straight_image.specs.Code.{stub, pages_between};
 ghost use Rattle.pa_straight_image.specs.Image.{main_mark, putchar_slot, once, imports_of, image_of};
+ghost use Rattle.pa_straight_image.specs.Shows.{Runs};
 
 use crate::code::{stub_words, text};
 use pa_fixups::{Fix, FixKind, Fixes, Sig};
@@ -103,6 +104,10 @@ pub fn program_image(alloc: Global, straight: &Straight) -> Result<Image, Memory
     ensures value { IfOk result (λ image. image ≡ image_of straight.now) }
     ensures legal { IfOk result IsLegal }
     ensures small { IfOk result IsSmall }
+
+    // What is printed, the end, the authentications and the functions entered, for every function for the code and every
+    // slide.
+    ensures runs { IfOk result (λ image. Runs image straight.now) }
 {
     let Imported {
         stubs,

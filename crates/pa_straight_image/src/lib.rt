@@ -3,5 +3,9 @@
 
 mod code;
 mod image;
+mod loading;
+#[cfg(test)]
+mod tests;
 
 pub use image::program_image;
+pub use loading::load_program;

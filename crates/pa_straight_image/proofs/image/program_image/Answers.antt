@@ -4,6 +4,8 @@ use Rattle.std.proofs.lemmas.Grind.{common_steps}
 use Rattle.pa_image.specs.Small.{IsSmall}
 use Rattle.pa_image.specs.Writing.{IsLegal}
 use Rattle.pa_straight_image.specs.Image.{image_of}
+use Rattle.pa_straight_image.specs.Shows.{Runs}
+use Rattle.pa_straight_image.proofs.Begun.{runs}
 use Rattle.pa_straight_image.proofs.Legal.{legal, small}
 use Rattle.pa_straight_image.proofs.image.program_image.Goals as goal
 
@@ -16,3 +18,6 @@ returns-clause-legal c = subst IsLegal (sym (returns-clause-value c)) (legal c.a
 
 pub returns-clause-small : goal.returns-clause-small
 returns-clause-small c = subst IsSmall (sym (returns-clause-value c)) (small c.args.straight.now c.requires)
+
+pub returns-clause-runs : goal.returns-clause-runs
+returns-clause-runs c = subst (λ image. Runs image c.args.straight.now) (sym (returns-clause-value c)) (runs c.args.straight.now c.requires)
