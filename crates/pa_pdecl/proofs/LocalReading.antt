@@ -297,7 +297,7 @@ module _ (d : ℕ) where
   file_item_at-fewer names c None q = meets_refuse
   file_item_at-fewer names c (Some t) q = file_item_by-fewer names t c q t.kind
 
-  file_item-eats : (names : List (List ℕ)) → Eats (reading.file_item d names)
+  pub file_item-eats : (names : List (List ℕ)) → Eats (reading.file_item d names)
   unfolding reading.file_item
   file_item-eats names = record { holds = λ c. meets_look (λ h q. file_item_at-fewer names c h q) }
 

@@ -3,11 +3,14 @@ use Rattle.std.specs.Prelude.{◌≡◌, ◌≤◌, ℕ, List, ◌++◌, Option,
 use Rattle.pa_num.specs.declared.fault.Fault.{Fault}
 use Rattle.pa_num.specs.declared.fault.Fault.TheVariants.{Refused, Memory}
 use Rattle.pa_lex.specs.declared.token.Token.{Token}
+use Rattle.pa_reading.specs.declared.rule.ParseError.TheVariants.{Broken}
 use Rattle.pa_reading.specs.declared.rule.SynRule.{SynRule}
-use Rattle.pa_tree.specs.Cursors.{Cursor, head}
+use Rattle.pa_reading.specs.declared.rule.SynRule.TheVariants.{S1, S2}
+use Rattle.pa_tree.specs.Cursors.{Cursor, start, head}
 use Rattle.pa_tree.specs.Stmts.{FileTree}
 use Rattle.pa_tree.specs.Files.{Spells}
 use Rattle.pa_tree.specs.Heights.{file_height}
+use Rattle.pa_pdecl.specs.Reading.{file}
 
 -- the most levels on a path of a file's tree
 abbrev pub most_levels : ℕ
@@ -21,13 +24,19 @@ place_at ended (Some t) = t.from
 abbrev pub place : Cursor → ℕ
 place c = place_at c.ended (head c.ahead)
 
--- No file within the depth begins with these tokens up to and with the next one, which stands at that place.
-pub record NoneBegins (tokens : List Token) (at : ℕ) : Type 0 where
+-- the files that a rule speaks of: all, or those within the depth
+abbrev pub Meant : SynRule → FileTree → Type 0
+Meant S1 f = Unit {0}
+Meant S2 f = file_height f ≤ most_levels
+
+-- Reading stops at this place by this rule, and no file that the rule speaks of begins with the tokens up to and with the one there.
+pub record IsRefused (tokens : List Token) (rule : SynRule) (at : ℕ) : Type 0 where
   pub front : List Token
   pub stop : Cursor
   pub split : tokens ≡ front ++ stop.ahead
   pub at_is : at ≡ place stop
-  pub none : (x : List Token) (f : FileTree) → head stop.ahead ≡ head x → Spells f (front ++ x) → file_height f ≤ most_levels → ⊥
+  pub stops : file most_levels (start tokens) ≡ Err (record { rule = Broken rule; at = stop })
+  pub none : (x : List Token) (f : FileTree) → head stop.ahead ≡ head x → Spells f (front ++ x) → Meant rule f → ⊥
 
 -- the tokens are the leaves of this file, which is within the depth
 pub record IsFile (tokens : List Token) (f : FileTree) : Type 0 where
@@ -36,5 +45,5 @@ pub record IsFile (tokens : List Token) (f : FileTree) : Type 0 where
 
 abbrev pub IsAnswer : List Token → Result FileTree (Fault SynRule) → Type 0
 IsAnswer tokens (Ok f) = IsFile tokens f
-IsAnswer tokens (Err (Refused rule place)) = NoneBegins tokens place
+IsAnswer tokens (Err (Refused rule place)) = IsRefused tokens rule place
 IsAnswer tokens (Err Memory) = Unit {0}

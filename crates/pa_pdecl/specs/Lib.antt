@@ -1,2 +1,4 @@
 pub mod Answers
+pub mod Nests
+pub mod Parsed
 pub mod Reading

@@ -86,6 +86,10 @@ module _ (storage : Option Storage) (d : ℕ) where
   abbrev pub declared : List (List ℕ) → List InitDeclaratorTree → Parser (List InitDeclaratorTree)
   declared names items = iterate (declared_step names) items
 
+  -- the rest of a declarator that was read from this place on, and further ones
+  abbrev pub all_declared : List (List ℕ) → ℕ → DeclaratorTree → Parser (List InitDeclaratorTree)
+  all_declared names from x = finished names from x >>= (λ i. declared names (i ∷ []))
+
 module _ (names : List (List ℕ)) where
   abbrev pub block_declaration_from : ℕ → Option Token → Parser BlockDeclarationTree
   block_declaration_from d h = (parsers names d).specs false >>= (λ s. init_declarator None d names >>= (λ x. declared None d names (x ∷ []) >>= (λ xs. mark p.Semicolon >> ended >>= (λ z. pure (OfBlockDeclaration s xs (from_of h) z)))))
@@ -210,6 +214,10 @@ module _ (d : ℕ) where
 
   abbrev pub ends_declaration : Option Storage → SpecsTree → List InitDeclaratorTree → ℕ → Parser FileItemTree
   ends_declaration word s xs from = mark p.Semicolon >> ended >>= (λ z. pure (Declared (OfDeclaration word s xs from z) from z))
+
+  -- the body of a function
+  abbrev pub defines : List (List ℕ) → Option Storage → SpecsTree → ℕ → DeclaratorTree → Parser FileItemTree
+  defines names word s from x = stmt names d >>= (λ b. ended >>= (λ z. pure (Defined (OfFunctionDefinition word s x b from z) from z)))
 
   abbrev pub body_at : List (List ℕ) → Option Storage → SpecsTree → ℕ → ℕ → DeclaratorTree → Option Token → Parser FileItemTree
   body_at names word s from begins x h = if not (is_typedef word) && sees p.LeftBrace h

@@ -1,0 +1,4 @@
+use Rattle.pa_pdecl.proofs.initializer.+initializer.Given as goal
+
+abbrev pub decreases-initializer : goal.decreases-initializer
+decreases-initializer l = l.depth

@@ -1,0 +1,118 @@
+//! Declarations in a block (C11 6.7).
+
+ghost use Rattle.std.specs.Prelude.{◌≤◌, ◌∷◌, [], map, None};
+ghost use Rattle.std.specs.Option.{option_map};
+ghost use Rattle.pa_tree.specs.Views.{initializer_tree, declarator_tree, init_declarator_tree, block_declaration_tree};
+ghost use Rattle.pa_reading.specs.Reads.{Reads};
+ghost use Rattle.pa_pdecl.specs.Reading as reading;
+
+use crate::initializer::initializer;
+use pa_lex::Punct;
+use pa_pexpr::{read_declarator, read_specs};
+use pa_reading::{Naming, ParseError, Reader, TypeNames};
+use pa_tree::{BlockDeclaration, Declarator, InitDeclarator, Initializer};
+use sqlite_items::Items;
+use std::alloc::Global;
+
+/// The initializer behind a declarator, where one is.
+#[tactic(auto, unfolding(crate::specs::Reading::assigned))]
+fn assigned(
+    alloc: Global,
+    names: &TypeNames,
+    r: &mut Reader<'_>,
+    depth: u32,
+) -> Result<Option<Initializer>, ParseError>
+    requires { depth ≤ 200 }
+    ensures { Reads (option_map initializer_tree) (reading.assigned names.now depth r.old) result r.new }
+{
+    if !r.sees(Punct::Assign) {
+        return Ok(None);
+    }
+    r.expect(Punct::Assign)?;
+    Ok(Some(initializer(alloc, names, r, depth)?))
+}
+
+/// The rest of a declarator that begins at `from`. The names are those behind it.
+pub fn finished(
+    alloc: Global,
+    names: &TypeNames,
+    r: &mut Reader<'_>,
+    depth: u32,
+    from: u32,
+    declarator: Declarator,
+) -> Result<InitDeclarator, ParseError>
+    requires { depth ≤ 200 }
+    ensures { Reads init_declarator_tree (reading.finished None depth names.now from (declarator_tree declarator) r.old) result r.new }
+{
+    let initializer = assigned(alloc, names, r, depth)?;
+    Ok(InitDeclarator {
+        declarator,
+        initializer,
+        from,
+        to: r.ended(),
+    })
+}
+
+/// A declarator with its initializer.
+#[tactic(auto, unfolding(crate::specs::Reading::init_declarator))]
+fn init_declarator(
+    alloc: Global,
+    names: &TypeNames,
+    r: &mut Reader<'_>,
+    depth: u32,
+) -> Result<InitDeclarator, ParseError>
+    requires { depth ≤ 200 }
+    ensures { Reads init_declarator_tree (reading.init_declarator None depth names.now r.old) result r.new }
+{
+    let from = r.begin();
+    let (declarator, _height) = read_declarator(alloc, names, r, depth, Naming::Named)?;
+    finished(alloc, names, r, depth, from, declarator)
+}
+
+/// The declarators behind the first one.
+#[tactic(auto, using(crate::proofs::Turns::declared_turn, crate::proofs::Turns::behind_none, crate::proofs::Turns::mark_shortens, crate::proofs::Turns::init_declarator_keeps))]
+fn more_declarators(
+    alloc: Global,
+    names: &TypeNames,
+    r: &mut Reader<'_>,
+    depth: u32,
+    first: InitDeclarator,
+) -> Result<Items<InitDeclarator>, ParseError>
+    requires { depth ≤ 200 }
+    ensures { Reads (λ q. map init_declarator_tree q) (reading.declared None depth names.now (init_declarator_tree first ∷ []) r.old) result r.new }
+{
+    let mut items = Items::new(alloc);
+    items.push(first)?;
+    'items: loop {
+        if !r.sees(Punct::Comma) {
+            return Ok(items);
+        }
+        r.expect(Punct::Comma)?;
+        let item = init_declarator(alloc, names, r, depth)?;
+        items.push(item)?;
+    }
+}
+
+/// A declaration in a block.
+#[tactic(auto, unfolding(crate::specs::Reading::block_declaration))]
+pub fn block_declaration(
+    alloc: Global,
+    names: &TypeNames,
+    r: &mut Reader<'_>,
+    depth: u32,
+) -> Result<BlockDeclaration, ParseError>
+    requires { depth ≤ 200 }
+    ensures { Reads block_declaration_tree (reading.block_declaration names.now depth r.old) result r.new }
+{
+    let from = r.begin();
+    let (specs, _height) = read_specs(alloc, names, r, depth, false)?;
+    let first = init_declarator(alloc, names, r, depth)?;
+    let declarators = more_declarators(alloc, names, r, depth, first)?;
+    r.expect(Punct::Semicolon)?;
+    Ok(BlockDeclaration {
+        specs,
+        declarators,
+        from,
+        to: r.ended(),
+    })
+}

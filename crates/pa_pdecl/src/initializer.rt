@@ -1,0 +1,126 @@
+//! Initializers (C11 6.7.9).
+
+ghost use Rattle.std.specs.Prelude.{◌≤◌, ◌∷◌, [], map};
+ghost use Rattle.pa_tree.specs.Cursors.{from_of};
+ghost use Rattle.pa_tree.specs.Views.{initializer_tree};
+ghost use Rattle.pa_reading.specs.Parser as parser;
+ghost use Rattle.pa_reading.specs.Reads.{Reads};
+ghost use Rattle.pa_pdecl.specs.Nests.{NestsInitializer};
+ghost use Rattle.pa_pdecl.specs.Reading as reading;
+
+use pa_lex::Punct;
+use pa_pexpr::read_expr;
+use pa_reading::{ParseError, Reader, SynRule, TypeNames, needs};
+use pa_tree::Initializer;
+use sqlite_items::Items;
+use std::alloc::Global;
+
+/// Initializers in braces, and what reads one of them.
+#[derive(Clone, Copy)]
+struct Braces<'a, F> {
+    alloc: Global,
+    /// The names that are type names.
+    names: &'a TypeNames,
+    /// The depth of an initializer inside.
+    depth: u32,
+    item: F,
+}
+
+impl<'a, F: Fn(Global, &TypeNames, &mut Reader<'_>, u32) -> Result<Initializer, ParseError>> Braces<
+    'a,
+    F,
+> {
+    /// An initializer inside.
+    fn part(&self, r: &mut Reader<'_>) -> Result<Initializer, ParseError>
+        requires { NestsInitializer self.now.depth (F.pre self.now.item) (F.post self.now.item) }
+        ensures { Reads initializer_tree (reading.initializer self.now.names.now self.now.depth r.old) result r.new }
+    {
+        (self.item)(self.alloc, self.names, r, self.depth)
+    }
+
+    /// The initializers behind the first one, and the last comma.
+    #[tactic(auto, using(crate::proofs::Turns::initializer_turn, crate::proofs::Turns::initializer_more, crate::proofs::Turns::mark_shortens, crate::proofs::Turns::initializer_keeps))]
+    fn more(&self, r: &mut Reader<'_>, first: Initializer) -> Result<Items<Initializer>, ParseError>
+        requires { NestsInitializer self.now.depth (F.pre self.now.item) (F.post self.now.item) }
+        ensures { Reads (λ q. map initializer_tree q) (parser.iterate (reading.more_step self.now.names.now (reading.initializer self.now.names.now self.now.depth)) (initializer_tree first ∷ []) r.old) result r.new }
+    {
+        let mut items = Items::new(self.alloc);
+        items.push(first)?;
+        'items: loop {
+            if !r.sees(Punct::Comma) {
+                return Ok(items);
+            }
+            r.expect(Punct::Comma)?;
+            if r.sees(Punct::RightBrace) {
+                return Ok(items);
+            }
+            let item = self.part(r)?;
+            items.push(item)?;
+        }
+    }
+
+    /// All of it, at its `{`.
+    #[tactic(auto, using(pa_tree::proofs::Views::initializer_views))]
+    fn braced(&self, r: &mut Reader<'_>, from: u32) -> Result<Initializer, ParseError>
+        requires { NestsInitializer self.now.depth (F.pre self.now.item) (F.post self.now.item) }
+        ensures { Reads initializer_tree (reading.braced self.now.names.now self.now.depth (reading.initializer self.now.names.now self.now.depth) from r.old) result r.new }
+    {
+        needs(1, self.depth)?;
+        r.expect(Punct::LeftBrace)?;
+        let first = self.part(r)?;
+        let items = self.more(r, first)?;
+        r.expect(Punct::RightBrace)?;
+        Ok(Initializer::Braced {
+            items,
+            from,
+            to: r.ended(),
+        })
+    }
+}
+
+/// An expression as an initializer.
+#[tactic(auto, using(pa_tree::proofs::Views::initializer_views))]
+fn value(
+    alloc: Global,
+    names: &TypeNames,
+    r: &mut Reader<'_>,
+    depth: u32,
+) -> Result<Initializer, ParseError>
+    requires { depth ≤ 200 }
+    ensures { Reads initializer_tree (parser.look (λ h. reading.value names.now depth (from_of h)) r.old) result r.new }
+{
+    let from = r.begin();
+    let (value, _height) = read_expr(alloc, names, r, depth, 1)?;
+    Ok(Initializer::Value {
+        value,
+        from,
+        to: r.ended(),
+    })
+}
+
+/// An initializer.
+#[tactic(auto, unfolding(crate::specs::Reading::initializer))]
+pub fn initializer(
+    alloc: Global,
+    names: &TypeNames,
+    r: &mut Reader<'_>,
+    depth: u32,
+) -> Result<Initializer, ParseError>
+    requires { depth ≤ 200 }
+    ensures { Reads initializer_tree (reading.initializer names.now depth r.old) result r.new }
+{
+    if !r.sees(Punct::LeftBrace) {
+        return value(alloc, names, r, depth);
+    }
+    if depth == 0 {
+        return Err(ParseError::Broken(SynRule::S2));
+    }
+    let from = r.begin();
+    Braces {
+        alloc,
+        names,
+        depth: depth - 1,
+        item: initializer,
+    }
+    .braced(r, from)
+}

@@ -1,0 +1,47 @@
+//! Whole files.
+
+ghost use Rattle.std.specs.Prelude.{◌≡◌};
+ghost use Rattle.pa_pdecl.specs.Answers as spec;
+ghost use Rattle.pa_pdecl.specs.Parsed.{IsParsed};
+
+use crate::file::file_items;
+use pa_lex::Token;
+use pa_num::Fault;
+use pa_reading::{ParseError, Reader, SynRule};
+use pa_tree::File;
+use std::alloc::Global;
+
+/// The most levels on a path of a file's tree.
+const MOST_LEVELS: u32 = 200;
+
+/// Where the next token begins, or the last one ends where none is left.
+fn place(r: &Reader<'_>) -> u32
+    ensures { result ≡ spec.place r.now }
+{
+    match r.peek() {
+        Some(t) => t.from,
+        None => r.ended(),
+    }
+}
+
+/// The file that the tokens spell (C11 6.9): they are its tree's leaves, and no path of the tree has more than 200 levels.
+///
+/// # Errors
+///
+/// `Refused` at the first byte of the first token such that no file within 200 levels begins with the tokens up to and with
+/// it, or at the last token's end where tokens are missing: S2 where a deeper file begins so, else S1. `Memory` where memory
+/// is short.
+#[tactic(auto, using(crate::proofs::Answers::read_file, crate::proofs::Answers::refused_file))]
+pub fn parse(alloc: Global, tokens: &[Token]) -> Result<File, Fault<SynRule>>
+    ensures { IsParsed tokens.now result }
+{
+    let mut r = Reader::new(tokens);
+    match file_items(alloc, tokens, &mut r, MOST_LEVELS) {
+        Ok(items) => Ok(File { items }),
+        Err(ParseError::Memory) => Err(Fault::Memory),
+        Err(ParseError::Broken(rule)) => Err(Fault::Refused {
+            rule,
+            place: u64::from(place(&r)),
+        }),
+    }
+}

@@ -1,0 +1,113 @@
+//! Declarators at the level of a file, where a typedef makes names type names (C11 6.7.8).
+
+ghost use Rattle.std.specs.Prelude.{◌≡◌, ◌≤◌, ◌∷◌, [], map, IfOk, OnOk};
+ghost use Rattle.pa_tree.specs.Files as grammar;
+ghost use Rattle.pa_tree.specs.Views.{declarator_tree, init_declarator_tree};
+ghost use Rattle.pa_reading.specs.Reads.{Reads};
+ghost use Rattle.pa_pdecl.specs.Reading as reading;
+
+use crate::declaration::finished;
+use pa_lex::Punct;
+use pa_num::{Memory, Name};
+use pa_pexpr::read_declarator;
+use pa_reading::{Naming, ParseError, Reader, TypeNames};
+use pa_tree::{Declarator, InitDeclarator, Storage};
+use sqlite_items::Items;
+use std::alloc::Global;
+
+/// The name that is declared, or no letter where none is.
+#[tactic(auto, using(pa_tree::proofs::Views::expr_views))]
+fn declared_name(alloc: Global, declarator: &Declarator) -> Result<Name, Memory>
+    ensures { IfOk result (λ name. name ≡ grammar.declared_name (declarator_tree declarator.now)) }
+{
+    let mut at = declarator;
+    'parts: loop {
+        at = match at {
+            Declarator::Named { name, .. } => return Ok(Name::from_slice(alloc, name.as_slice())?),
+            Declarator::Absent { .. } => return Ok(Name::new(alloc)),
+            Declarator::Pointer { of, .. } => of.get(),
+            Declarator::Grouped { inner, .. } => inner.get(),
+            Declarator::Array { of, .. } => of.get(),
+            Declarator::Function { of, .. } => of.get(),
+        };
+    }
+}
+
+/// Makes the name of a typedef's declarator a type name.
+fn note(
+    alloc: Global,
+    names: &mut TypeNames,
+    storage: Option<Storage>,
+    declarator: &Declarator,
+) -> Result<(), Memory>
+    ensures { OnOk result (names.new ≡ grammar.behind storage (declarator_tree declarator.now) names.old) }
+{
+    match storage {
+        Some(Storage::Typedef) => names.push(declared_name(alloc, declarator)?),
+        _ => Ok(()),
+    }
+}
+
+/// The rest of a declarator that begins at `from`: its name stands for its initializer too.
+fn noted(
+    alloc: Global,
+    names: &mut TypeNames,
+    r: &mut Reader<'_>,
+    depth: u32,
+    storage: Option<Storage>,
+    from: u32,
+    declarator: Declarator,
+) -> Result<InitDeclarator, ParseError>
+    requires { depth ≤ 200 }
+    ensures value { Reads init_declarator_tree (reading.finished storage depth names.old from (declarator_tree declarator) r.old) result r.new }
+    ensures names { IfOk result (λ x. names.new ≡ grammar.behind_all storage (init_declarator_tree x ∷ []) names.old) }
+{
+    note(alloc, names, storage, &declarator)?;
+    finished(alloc, names, r, depth, from, declarator)
+}
+
+/// A declarator with its initializer.
+#[tactic(auto, unfolding(crate::specs::Reading::init_declarator))]
+fn another(
+    alloc: Global,
+    names: &mut TypeNames,
+    r: &mut Reader<'_>,
+    depth: u32,
+    storage: Option<Storage>,
+) -> Result<InitDeclarator, ParseError>
+    requires { depth ≤ 200 }
+    ensures value { Reads init_declarator_tree (reading.init_declarator storage depth names.old r.old) result r.new }
+    ensures names { IfOk result (λ x. names.new ≡ grammar.behind_all storage (init_declarator_tree x ∷ []) names.old) }
+{
+    let from = r.begin();
+    let (declarator, _height) = read_declarator(alloc, names, r, depth, Naming::Named)?;
+    noted(alloc, names, r, depth, storage, from, declarator)
+}
+
+/// The rest of a declarator that begins at `from`, and further ones.
+#[tactic(auto, using(crate::proofs::Turns::declared_turn, crate::proofs::Turns::behind_snoc, crate::proofs::Turns::mark_shortens, crate::proofs::Turns::init_declarator_keeps))]
+pub fn declarators(
+    alloc: Global,
+    names: &mut TypeNames,
+    r: &mut Reader<'_>,
+    depth: u32,
+    storage: Option<Storage>,
+    from: u32,
+    declarator: Declarator,
+) -> Result<Items<InitDeclarator>, ParseError>
+    requires { depth ≤ 200 }
+    ensures value { Reads (λ q. map init_declarator_tree q) (reading.all_declared storage depth names.old from (declarator_tree declarator) r.old) result r.new }
+    ensures names { IfOk result (λ q. names.new ≡ grammar.behind_all storage (map init_declarator_tree q) names.old) }
+{
+    let first = noted(alloc, names, r, depth, storage, from, declarator)?;
+    let mut items = Items::new(alloc);
+    items.push(first)?;
+    'items: loop {
+        if !r.sees(Punct::Comma) {
+            return Ok(items);
+        }
+        r.expect(Punct::Comma)?;
+        let item = another(alloc, names, r, depth, storage)?;
+        items.push(item)?;
+    }
+}
