@@ -8,8 +8,13 @@ use Rattle.pa_object.specs.Machine.{Machine}
 use Rattle.pa_object.specs.Run.{run, end_of}
 use Rattle.pa_straight.specs.declared.source.Straight.{Straight}
 use Rattle.pa_straight.specs.Source.{IsTextOf, IsNoText}
-use Rattle.pa_straight.specs.Block.{begun, words_of}
-use Rattle.pa_straight.specs.Shows.{Runs}
+use Rattle.pa_image.specs.declared.image.Image.{Image}
+use Rattle.pa_image.specs.Small.{IsSmall}
+use Rattle.pa_image.specs.Writing.{IsLegal}
+use Rattle.pa_pal.specs.Pal.{pal}
+use Rattle.pa_load.specs.Loaded.{State, loaded, begun_in}
+use Rattle.pa_straight_image.specs.Image.{image_of}
+use Rattle.pa_straight_image.specs.Shows.{Runs}
 use Rattle.pa_engine.specs.Report.{report_text}
 use Rattle.pa_paclab.specs.declared.exit.Exit.{Exit}
 use Rattle.pa_paclab.specs.declared.exit.Exit.TheVariants as exit
@@ -85,24 +90,26 @@ IsUnlessMemory answer expected = (answer ≡ expected) ⊎ (answer ≡ exit.Memo
 
 -- ---- what a command that is done prints
 
--- the machine after a block's run without a script, for a million instructions
-abbrev pub run_of : Code → List ℕ → Machine
-run_of code block = run code [] 1000000 (begun block)
+-- the machine after the run of a loaded state without a script and without input, for a million instructions
+abbrev pub run_of : Code → State → Machine
+run_of code state = run code [] 1000000 (begun_in state [])
 
--- the full report of a block's run
+-- the full report of a run
 abbrev pub report_of : Machine → List ℕ
 report_of m = report_text m.output (end_of m) m.log false
 
--- A text's report under a function for the code: the report of the run of the block of the text's program. Of that block each
--- run, under every function, prints and returns what the program says, takes only what it signed, and enters the functions
--- that the program calls.
+-- A text's report under a function for the code: the report of the run of the image of the text's program, loaded without a
+-- slide. The image is legal and small, and each run of it, under every function and every slide, prints and returns what the program
+-- says, takes only what was signed, and enters the functions that the program calls.
 pub record IsReport (code : Code) (text report : List ℕ) : Type 0 where
   pub program : Straight
   pub accepts : Accepts text program
-  pub block : List ℕ
-  pub words : block ≡ words_of program
-  pub runs : Runs block program
-  pub is : report ≡ report_of (run_of code block)
+  pub image : Image
+  pub image_is : image ≡ image_of program
+  pub legal : IsLegal image
+  pub small : IsSmall image
+  pub runs : Runs image program
+  pub is : report ≡ report_of (run_of code (loaded code image pal 0))
 
 -- a text that goes with what the shelf tells has a report, and this is written of it
 abbrev pub Prints : Told → Code → (List ℕ → Type 0) → Type 0
@@ -140,11 +147,13 @@ IsRefusalOf text exit.Memory = ⊤
 IsRefusalOf text (exit.Refused refusal) = IsRefused refusal text
 IsRefusalOf text answer = ⊥
 
--- this is the output, the end and the log of the run of a block of the program
+-- this is the output, the end and the log of the run of the program's image
 pub record IsRunOf (code : Code) (program : Straight) (output : List ℕ) (end : End) (log : Log) : Type 0 where
-  pub block : List ℕ
-  pub words : block ≡ words_of program
-  pub runs : Runs block program
-  pub output_is : output ≡ (run_of code block).output
-  pub end_is : end ≡ end_of (run_of code block)
-  pub log_is : log ≡ (run_of code block).log
+  pub image : Image
+  pub image_is : image ≡ image_of program
+  pub legal : IsLegal image
+  pub small : IsSmall image
+  pub runs : Runs image program
+  pub output_is : output ≡ (run_of code (loaded code image pal 0)).output
+  pub end_is : end ≡ end_of (run_of code (loaded code image pal 0))
+  pub log_is : log ≡ (run_of code (loaded code image pal 0)).log

@@ -1,7 +1,6 @@
 ghost use Rattle.std.specs.Prelude.{◌≡◌, ◌≢◌, ◌≤◌, ◌<◌, ◌⊎◌, length, map, false, string_bytes, vec_len, Option, Some, None, IfOk, IfErr, IsSomeAnd};
 ghost use Rattle.pa_io.specs.Outside.{IsFile, Rose, Grew, GrewByPrefix};
 ghost use Rattle.pa_straight.specs.Source.{IsNoText};
-ghost use Rattle.pa_straight.specs.Shows.{Runs};
 ghost use Rattle.pa_engine.specs.Report.{report_text};
 ghost use Rattle.pa_paclab.specs.Answers.{most_bytes, refusal_by, IsRefused, Accepts, IsAccepted, SomeText, KnownText, Cause, IsUnlessMemory, run_of, report_of, IsReport, Prints, OnDone, OnWriteFault, UnlessReadFault, OnStop, IsStop, IsRefusalOf, IsRunOf};
 ghost use Rattle.pa_paclab.specs.Lines.{line_of};
@@ -95,7 +94,7 @@ fn answer<H: Shelf, P: Pac>(
 
 /// Does what the words ask for, with the files of a shelf, the bytes of a source and the host's function for the
 /// authentication code, and writes what is printed: all of it where the answer is `Done`, and otherwise one line that tells the
-/// answer. `run FILE` compiles the file to a block of code, runs it for at most a million instructions, and prints the report.
+/// answer. `run FILE` compiles the file to an image, loads it, runs it for at most a million instructions, and prints the report.
 /// The answer doesn't depend on whether such a line could be written.
 pub fn paclab<H: Shelf, S: Source, K: Sink, P: Pac>(
     alloc: Global,

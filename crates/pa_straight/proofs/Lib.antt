@@ -1,4 +1,1 @@
-pub mod Calls
-pub mod Whole
-pub mod Begun
 mod SourceLaws

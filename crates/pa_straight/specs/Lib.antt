@@ -1,3 +1,1 @@
-pub mod Block
-pub mod Shows
 pub mod Source

@@ -1,9 +1,0 @@
--- What was written and what is to come are the code up to the calls' end.
-use Rattle.std.proofs.Common.{◌≡◌, ◌++◌, map, drop}
-use Rattle.pa_a64.specs.Decoding.{encoded}
-use Rattle.pa_straight.specs.Block.{start, prologue, calls}
-use Rattle.pa_straight.proofs.emit.block.Given as goal
-
-abbrev pub invariant-loop-index : goal.invariant-loop-index
-invariant-loop-index l =
-    l.words ++ map encoded (calls (drop l.index l.prints)) ≡ map encoded (start ++ (prologue ++ calls l.prints))
