@@ -218,6 +218,15 @@ stmt_pos (Break a z) = omega arith
 stmt_pos (Continue a z) = omega arith
 stmt_pos (Return value a z) = omega arith
 
+-- a name takes a level
+named_pos : (x : DeclaratorTree) → has_name x ≡ true → 1 ≤ declarator_height x
+named_pos (Named name a z) h = omega arith
+named_pos (Absent a z) h = absurd (cc)
+named_pos (Pointer qualifiers of a z) h = omega arith
+named_pos (Grouped inner a z) h = omega arith
+named_pos (Array of length a z) h = omega arith
+named_pos (Function of parameters a z) h = omega arith
+
 module _ (names : List (List ℕ)) where
   block_type : (b : BlockDeclarationTree) (c e : Cursor) → BlockDeclarationSpells names b c e → begins_type names (head c.ahead) ≡ true
   block_type (OfBlockDeclaration specs ds a z) c e h = specs_type names false specs c h.0 h.2
@@ -227,13 +236,15 @@ module _ (names : List (List ℕ)) where
   block_declaration_is d (OfBlockDeclaration specs [] a z) c e h l = absurd (h.3 refl)
   block_declaration_is d (OfBlockDeclaration specs (OfInitDeclarator x v a2 z2 ∷ ds) a z) c e (m, n, s, some, (i, (j, y, t, u, more), r), k, lies) l =
       let first : InitDeclaratorTree = OfInitDeclarator x v a2 z2 in
-      bind_is ((parsers names d).specs false) (λ q. reading.init_declarator None d names >>= (λ f. reading.declared None d names (f ∷ []) >>= (λ xs. mark p.Semicolon >> ended >>= (λ o. pure (OfBlockDeclaration q xs (begin c) o))))) c m specs (Ok (OfBlockDeclaration specs (first ∷ ds) a z, e))
+      let one = named_pos x y in
+      roomy 1 d ((parsers names d).specs false >>= (λ q. reading.init_declarator None d names >>= (λ f. reading.declared None d names (f ∷ []) >>= (λ xs. mark p.Semicolon >> ended >>= (λ o. pure (OfBlockDeclaration q xs (begin c) o)))))) c (Ok (OfBlockDeclaration specs (first ∷ ds) a z, e)) (omega (arith, l, one))
+      (bind_is ((parsers names d).specs false) (λ q. reading.init_declarator None d names >>= (λ f. reading.declared None d names (f ∷ []) >>= (λ xs. mark p.Semicolon >> ended >>= (λ o. pure (OfBlockDeclaration q xs (begin c) o))))) c m specs (Ok (OfBlockDeclaration specs (first ∷ ds) a z, e))
       ((complete names d).specs specs false c m s (omega (arith, l)) (name_ends names x 0 m j y t))
       (bind_is (reading.init_declarator None d names) (λ f. reading.declared None d names (f ∷ []) >>= (λ xs. mark p.Semicolon >> ended >>= (λ o. pure (OfBlockDeclaration specs xs (begin c) o)))) m i first (Ok (OfBlockDeclaration specs (first ∷ ds) a z, e))
       (init_declarator_is None d names first m i (j, y, t, u, more) (omega (arith, l)) (rest_ends None d (behind_all None (first ∷ []) names) ds i n r (λ q. at_semicolon q n e k)))
       (bind_is (reading.declared None d names (first ∷ [])) (λ xs. mark p.Semicolon >> ended >>= (λ o. pure (OfBlockDeclaration specs xs (begin c) o))) i n (first ∷ ds) (Ok (OfBlockDeclaration specs (first ∷ ds) a z, e))
       (declared_is None d names ds (first ∷ []) i n e r (omega (arith, l)) k)
-      (marked p.Semicolon (ended >>= (λ o. pure (OfBlockDeclaration specs (first ∷ ds) (begin c) o))) n e (Ok (OfBlockDeclaration specs (first ∷ ds) a z, e)) k (close (OfBlockDeclaration specs (first ∷ ds)) (begin c) a z e (sym lies.from_is) lies.to_is))))
+      (marked p.Semicolon (ended >>= (λ o. pure (OfBlockDeclaration specs (first ∷ ds) (begin c) o))) n e (Ok (OfBlockDeclaration specs (first ∷ ds) a z, e)) k (close (OfBlockDeclaration specs (first ∷ ds)) (begin c) a z e (sym lies.from_is) lies.to_is)))))
 
   -- no statement begins with `else`, with `}` or as a type does
   record Starts (c : Cursor) : Type 0 where

@@ -76,7 +76,7 @@ module _ (word : Option Storage) (d : ℕ) where
 
 module _ (names : List (List ℕ)) where
   block_declaration_from-deeper : (d : ℕ) (h : Option Token) → Deeper (reading.block_declaration_from names d h) (reading.block_declaration_from names (suc d) h)
-  block_declaration_from-deeper d h = deeper_bind ((parsers-deeper names d).specs false) (λ s. deeper_bind (init_declarator-deeper None d names) (λ x. deeper_bind (declared-deeper None d names (x ∷ [])) (λ xs. deeper_same)))
+  block_declaration_from-deeper d h = deeper_then (deeper_needs 1 d) (deeper_bind ((parsers-deeper names d).specs false) (λ s. deeper_bind (init_declarator-deeper None d names) (λ x. deeper_bind (declared-deeper None d names (x ∷ [])) (λ xs. deeper_same))))
 
   block_declaration-deeper : (d : ℕ) → Deeper (reading.block_declaration names d) (reading.block_declaration names (suc d))
   unfolding reading.block_declaration

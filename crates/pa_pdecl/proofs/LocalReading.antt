@@ -97,14 +97,14 @@ module _ (storage : Option Storage) (d : ℕ) where
 
 module _ (names : List (List ℕ)) where
   block_declaration_from-local : (d : ℕ) (h : Option Token) → Local (reading.block_declaration_from names d h)
-  block_declaration_from-local d h = local_bind ((parsers-local names d).specs false) (λ s. local_bind (init_declarator-local None d names) (λ x. local_bind (declared-local None d names (x ∷ [])) (λ xs. local_then (mark-local p.Semicolon) (local_bind local_ended (λ z. local_pure _)))))
+  block_declaration_from-local d h = local_then (needs-local 1 d) (local_bind ((parsers-local names d).specs false) (λ s. local_bind (init_declarator-local None d names) (λ x. local_bind (declared-local None d names (x ∷ [])) (λ xs. local_then (mark-local p.Semicolon) (local_bind local_ended (λ z. local_pure _))))))
 
   pub block_declaration-local : (d : ℕ) → Local (reading.block_declaration names d)
   unfolding reading.block_declaration
   block_declaration-local d = local_look (block_declaration_from-local d)
 
   block_declaration_from-eats : (d : ℕ) (h : Option Token) → Eats (reading.block_declaration_from names d h)
-  block_declaration_from-eats d h = eats_right ((parsers-local names d).specs false) (λ s. eats_right (init_declarator-local None d names) (λ x. eats_right (declared-local None d names (x ∷ [])) (λ xs. eats_left (eats_mark p.Semicolon) (λ _. local_bind local_ended (λ z. local_pure _)))))
+  block_declaration_from-eats d h = eats_right (needs-local 1 d) (λ _. eats_right ((parsers-local names d).specs false) (λ s. eats_right (init_declarator-local None d names) (λ x. eats_right (declared-local None d names (x ∷ [])) (λ xs. eats_left (eats_mark p.Semicolon) (λ _. local_bind local_ended (λ z. local_pure _))))))
 
   pub block_declaration-eats : (d : ℕ) → Eats (reading.block_declaration names d)
   unfolding reading.block_declaration

@@ -153,10 +153,10 @@ module _ (names : List (List ℕ)) where
   IsBlock d c b e = BlockDeclarationSpells names b c e × (block_declaration_height b ≤ d)
 
   block_head : (d : ℕ) (c : Cursor) (h : Option Token) → h ≡ head c.ahead → Meets (reading.block_declaration_from names d h) c (IsBlock d c)
-  block_head d c h q = rw q (meets_bind ((sound names d).specs false c) (λ s m (a, l). meets_bind (meets_init None d names m) (λ x n (b, k). meets_bind (meets_declared None d names (x ∷ []) n) (λ xs o f. meets_then (meets_mark p.Semicolon o) (λ _ e z. record {
+  block_head d c h q = rw q (meets_needs 1 d (λ _. meets_bind ((sound names d).specs false c) (λ s m (a, l). meets_bind (meets_init None d names m) (λ x n (b, k). meets_bind (meets_declared None d names (x ∷ []) n) (λ xs o f. meets_then (meets_mark p.Semicolon o) (λ _ e z. record {
     holds =
         (let i = f.fits in rw f.all_is ((m, o, a, (λ bad. cc), (n, b, f.spells), z, record { from_is = refl; to_is = refl }), omega (arith, l, k, i)));
-  })))))
+  }))))))
 
   meets_block_declaration : (d : ℕ) (c : Cursor) → Meets (reading.block_declaration names d) c (IsBlock d c)
   unfolding reading.block_declaration

@@ -92,7 +92,7 @@ module _ (storage : Option Storage) (d : ℕ) where
 
 module _ (names : List (List ℕ)) where
   abbrev pub block_declaration_from : ℕ → Option Token → Parser BlockDeclarationTree
-  block_declaration_from d h = (parsers names d).specs false >>= (λ s. init_declarator None d names >>= (λ x. declared None d names (x ∷ []) >>= (λ xs. mark p.Semicolon >> ended >>= (λ z. pure (OfBlockDeclaration s xs (from_of h) z)))))
+  block_declaration_from d h = needs 1 d >> (parsers names d).specs false >>= (λ s. init_declarator None d names >>= (λ x. declared None d names (x ∷ []) >>= (λ xs. mark p.Semicolon >> ended >>= (λ z. pure (OfBlockDeclaration s xs (from_of h) z)))))
 
   unfoldable pub block_declaration : ℕ → Parser BlockDeclarationTree
   block_declaration d = look (block_declaration_from d)

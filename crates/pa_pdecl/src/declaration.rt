@@ -9,7 +9,7 @@ ghost use Rattle.pa_pdecl.specs.Reading as reading;
 use crate::initializer::initializer;
 use pa_lex::Punct;
 use pa_pexpr::{read_declarator, read_specs};
-use pa_reading::{Naming, ParseError, Reader, TypeNames};
+use pa_reading::{Naming, ParseError, Reader, TypeNames, needs};
 use pa_tree::{BlockDeclaration, Declarator, InitDeclarator, Initializer};
 use sqlite_items::Items;
 use std::alloc::Global;
@@ -105,6 +105,7 @@ pub fn block_declaration(
     ensures { Reads block_declaration_tree (reading.block_declaration names.now depth r.old) result r.new }
 {
     let from = r.begin();
+    needs(1, depth)?;
     let (specs, _height) = read_specs(alloc, names, r, depth, false)?;
     let first = init_declarator(alloc, names, r, depth)?;
     let declarators = more_declarators(alloc, names, r, depth, first)?;
