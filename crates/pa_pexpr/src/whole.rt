@@ -6,6 +6,7 @@ ghost use Rattle.pa_tree.specs.Spells.{ExprSpells, SpecsSpell};
 ghost use Rattle.pa_tree.specs.Views.{expr_tree, specs_tree, declarator_tree};
 ghost use Rattle.pa_num.specs.declared.fault.Fault.TheVariants as fault;
 ghost use Rattle.pa_reading.specs.Answers as answers;
+ghost use Rattle.pa_reading.specs.Reading as reading;
 
 use crate::depth::{read_declarator, read_expr, read_specs};
 use pa_lex::Token;
@@ -82,9 +83,15 @@ macro_rules! longest {
                 let end = $tokens.len() - r.left();
                 let mut front = reader_at(&$tokens[..end], $at);
                 match $read($alloc, $names, &mut front, room, $form) {
-                    Ok((tree, _)) if front.left() == 0 => Ok((tree, end)),
+                    Ok((tree, _)) => {
+                        if front.left() == 0 {
+                            Ok((tree, end))
+                        } else {
+                            Err(refusal($tokens, rule, end))
+                        }
+                    }
                     Err(ParseError::Memory) => Err(Fault::Memory),
-                    _ => Err(refusal($tokens, rule, end)),
+                    Err(ParseError::Broken(_)) => Err(refusal($tokens, rule, end)),
                 }
             }
         }
@@ -93,7 +100,7 @@ macro_rules! longest {
 
 /// Reads the expression (C11 6.5, or 6.6 for a constant one) that begins at the token numbered `at`, for a place that counts `depth`
 /// levels already: the tree of the longest list of tokens that begins one that fits, and the number of the token behind it. S1 or S2 at
-/// the token behind that list where it is no whole tree's.
+/// the token behind that list where it is no whole tree's, as the reading says.
 pub fn expr(
     alloc: Global,
     tokens: &[Token],
@@ -104,7 +111,8 @@ pub fn expr(
 ) -> Result<(Expr, usize), Fault<SynRule>>
     requires within { at ≤ length tokens.now }
     requires shallow { depth ≤ answers.most_levels }
-    ensures { answers.IsAnswer (ExprSpells names.now (answers.level_number level)) expr_height (answers.most_levels - depth) expr_tree tokens.now at result }
+    ensures answer { answers.IsAnswer (ExprSpells names.now (answers.level_number level)) expr_height (answers.most_levels - depth) expr_tree tokens.now at result }
+    ensures stop { answers.IsStop ((reading.parsers names.now (answers.most_levels - depth)).expr (answers.level_number level)) tokens.now at result }
 {
     longest!(read_expr, level.number(), alloc, tokens, at, names, depth)
 }
@@ -121,7 +129,8 @@ pub fn type_specs(
 ) -> Result<(Specs, usize), Fault<SynRule>>
     requires within { at ≤ length tokens.now }
     requires shallow { depth ≤ answers.most_levels }
-    ensures { answers.IsAnswer (SpecsSpell names.now bodies) specs_height (answers.most_levels - depth) specs_tree tokens.now at result }
+    ensures answer { answers.IsAnswer (SpecsSpell names.now bodies) specs_height (answers.most_levels - depth) specs_tree tokens.now at result }
+    ensures stop { answers.IsStop ((reading.parsers names.now (answers.most_levels - depth)).specs bodies) tokens.now at result }
 {
     longest!(read_specs, bodies, alloc, tokens, at, names, depth)
 }
@@ -138,7 +147,8 @@ pub fn declarator(
 ) -> Result<(Declarator, usize), Fault<SynRule>>
     requires within { at ≤ length tokens.now }
     requires shallow { depth ≤ answers.most_levels }
-    ensures { answers.IsAnswer (answers.DeclaratorOf names.now named) declarator_height (answers.most_levels - depth) declarator_tree tokens.now at result }
+    ensures answer { answers.IsAnswer (answers.DeclaratorOf names.now named) declarator_height (answers.most_levels - depth) declarator_tree tokens.now at result }
+    ensures stop { answers.IsStop ((reading.parsers names.now (answers.most_levels - depth)).declarator (answers.naming_of named)) tokens.now at result }
 {
     longest!(
         read_declarator,

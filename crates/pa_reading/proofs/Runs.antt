@@ -1,7 +1,7 @@
 -- From what is read at a place to what is answered there.
 use Rattle.std.proofs.Common.{◌≡◌, ◌≢◌, ◌≤◌, ◌<◌, ◌-◌, ◌+◌, ℕ, zero, suc, max, List, [], ◌∷◌, ◌++◌, length, take, drop, Option, Some, None, Result, Ok, Err, refl, sym, ◌∙◌, ap, subst, arith, append_assoc}
 use Rattle.std.specs.Prelude.{slice_get}
-use Rattle.std.proofs.lemmas.List.{take-append-drop, drop-append-le, length-append, length-take, length-drop}
+use Rattle.std.proofs.lemmas.List.{take-append-drop, drop-append-le, length-append, length-take, length-drop, append-nil, append_cancel_right}
 use Rattle.std.proofs.Math.Nat.{le-max_left, le-max_right}
 use Rattle.std.proofs.Math.Seq.{drop-append_seam}
 use Rattle.pa_lex.specs.declared.token.Token.{Token}
@@ -12,7 +12,7 @@ use Rattle.pa_reading.specs.declared.rule.SynRule.{SynRule}
 use Rattle.pa_reading.specs.declared.rule.SynRule.TheVariants.{S1, S2}
 use Rattle.pa_reading.specs.declared.rule.ParseError.{ParseError}
 use Rattle.pa_reading.specs.declared.rule.ParseError.TheVariants.{Broken}
-use Rattle.pa_reading.specs.Answers.{to_of, ended_at, cursor_at, place_at, NoneGoesOn, NoneBegins, Any, Fitting, IsLongest, IsRefused, IsAnswer}
+use Rattle.pa_reading.specs.Answers.{to_of, ended_at, cursor_at, place_at, NoneGoesOn, Fitting, Asked, IsLongest, IsRefused, IsAnswer, Stopped, IsStop}
 use Rattle.pa_reading.specs.Parser.{Parser, Outcome, Stop}
 use Rattle.pa_reading.proofs.Local.{Local, LocalAt, Gives, Stops, with_ahead}
 use Rattle.pa_reading.proofs.Meets.{Meets, IfRead}
@@ -108,20 +108,6 @@ module _ {A : Type 0} (Spelled : A → Cursor → Cursor → Type 0) (height : A
           longest = λ u h. ends_there (cursor_at tokens at) e t g u (sym (ap head d) ∙ sym (get_at (length tokens - length e.ahead) tokens) ∙ h);
         }
 
-    -- No such tree begins so, where none goes on behind what is read.
-    stopped : (such : A → Type 0) (tokens : List Token) (at place : ℕ) (s : Stop) (g : Stops p (cursor_at tokens at) s) → NoneGoesOn Spelled such (ended_at tokens at) g.front (head (s.at).ahead)
-        → place ≡ place_at tokens (length tokens - length (s.at).ahead) → NoneBegins Spelled such tokens at place
-    stopped such tokens at place s g h i =
-        let d : drop (length tokens - length (s.at).ahead) tokens ≡ (s.at).ahead = left_of at tokens g.front (s.at).ahead g.split in
-        record {
-          end = length tokens - length (s.at).ahead;
-          within = omega arith;
-          run = g.front;
-          split = g.split ∙ ap (λ l. g.front ++ l) (sym d);
-          place_is = i;
-          refused = subst (NoneGoesOn Spelled such (ended_at tokens at) g.front) (sym (ap head d) ∙ sym (get_at (length tokens - length (s.at).ahead) tokens)) h;
-        }
-
     stop_within : (tokens : List Token) (at : ℕ) (s : Stop) → at ≤ length tokens → p (cursor_at tokens at) ≡ Err s → at ≤ length tokens - length (s.at).ahead
     stop_within tokens at s k q =
         let g = stops_of p (cursor_at tokens at) s (r.near.holds (cursor_at tokens at)) q in
@@ -176,13 +162,10 @@ module _ {A : Type 0} (Spelled : A → Cursor → Cursor → Type 0) (height : A
             let f' : p (cursor_at (take (length tokens - length (s.at).ahead) tokens) at) ≡ Ok (t, e) = ap (λ m. p (cursor_at (take (length tokens - m) tokens) at)) (sym q) ∙ ap p (sym b) ∙ f in
             subst (λ m. IsLongest Spelled height room tokens at t (length tokens - m)) (sym q) (read_front tokens at s t e k (from_start (Err s) h) f' (none_left e.ahead z))
 
-        stop_place : (place : ℕ) → place ≡ place_at tokens (length tokens - n) → place ≡ place_at tokens (length tokens - length (s.at).ahead)
-        stop_place place e = e ∙ ap (λ m. place_at tokens (length tokens - m)) q
-
-        pub stop_deep : (place : ℕ) → place ≡ place_at tokens (length tokens - n) → NoneBegins Spelled (Fitting Spelled height room) tokens at place
-        stop_deep place e =
-            let g = stops_of p (cursor_at tokens at) s (r.near.holds (cursor_at tokens at)) (from_start (Err s) h) in
-            stopped (Fitting Spelled height room) tokens at place s g (stops_there (cursor_at tokens at) s g) (stop_place place e)
+-- what is read in front of a stop is no whole tree
+abbrev pub NotWhole : {A : Type 0} → Outcome A → Type 0
+NotWhole (Ok q) = length (q.1).ahead ≢ 0
+NotWhole (Err s) = Unit {0}
 
 -- a reader of a form of trees for each depth, where more depth changes no refusal but those by depth
 module _ {A : Type 0} (Spelled : A → Cursor → Cursor → Type 0) (height : A → ℕ) (p : ℕ → Parser A) where
@@ -191,24 +174,69 @@ module _ {A : Type 0} (Spelled : A → Cursor → Cursor → Type 0) (height : A
     pub stops : (room more : ℕ) (c : Cursor) (s : Stop) → room ≤ more → s.rule ≢ Broken S2 → p room c ≡ Err s → p more c ≡ Err s
 
   module _ (rs : Readers) (room : ℕ) where
-    stops_for_all : (c : Cursor) (s : Stop) (g : Stops (p room) c s) → s.rule ≢ Broken S2 → NoneGoesOn Spelled Any c.ended g.front (head (s.at).ahead)
-    stops_for_all c s g n = record {
+    is_whole : (tree : A) (to : ℕ) (o : Outcome A) → o ≡ Ok (tree, record { ended = to; ahead = [] }) → NotWhole o → ⊥
+    is_whole tree to (Ok r) e n = n (ap length (ok_ahead {x = r.0} {y = tree} {c = r.1} {d = record { ended = to; ahead = [] }} e))
+    is_whole tree to (Err s) e n = cc
+
+    stops_all : (c : Cursor) (s : Stop) (g : Stops (p room) c s) → s.rule ≢ Broken S2 → NoneGoesOn Spelled (Asked Spelled height room S1) c.ended g.front (head (s.at).ahead)
+    stops_all c s g n = record {
       none = λ tree more to w h _.
           let d = max room (height tree) in
           let a = rs.stops room d (record { ended = c.ended; ahead = g.front ++ more }) (record { rule = s.rule; at = with_ahead s.at more }) (le-max_left room (height tree)) n (g.again more w) in
           let b = (rs.of d).complete tree (record { ended = c.ended; ahead = g.front ++ more }) to h (le-max_right room (height tree)) in cc;
     }
 
+    stops_by : (rule : SynRule) (c : Cursor) (s : Stop) (g : Stops (p room) c s) → s.rule ≡ Broken rule → NoneGoesOn Spelled (Asked Spelled height room rule) c.ended g.front (head (s.at).ahead)
+    stops_by S1 c s g b = stops_all c s g (λ e. cc)
+    stops_by S2 c s g b = stops_there Spelled height room (p room) (rs.of room) c s g
+
+    whole_not : (o : Outcome A) (ended : ℕ) (run : List Token) → NotWhole o → p room (record { ended = ended; ahead = run }) ≡ o
+        → (tree : A) (more : List Token) (to : ℕ) → None ≡ head more → Spelled tree (record { ended = ended; ahead = run ++ more }) (record { ended = to; ahead = [] }) → height tree ≤ room → ⊥
+    whole_not o ended run n q tree (t ∷ more) to w h l = cc
+    whole_not o ended run n q tree [] to w h l =
+        let a : p room (record { ended = ended; ahead = run }) ≡ Ok (tree, record { ended = to; ahead = [] }) = (rs.of room).complete tree (record { ended = ended; ahead = run }) to (subst (λ x. Spelled tree (record { ended = ended; ahead = x }) (record { ended = to; ahead = [] })) (append-nil run) h) l in
+        is_whole tree to o (sym q ∙ a) n
+
+    -- what does not read these tokens whole spells none of the trees that fit
+    not_whole : (o : Outcome A) (ended : ℕ) (run : List Token) → NotWhole o → p room (record { ended = ended; ahead = run }) ≡ o → NoneGoesOn Spelled (Fitting Spelled height room) ended run None
+    not_whole o ended run n q = record { none = λ tree more to w h l. whole_not o ended run n q tree more to w h l }
+
     module _ (tokens : List Token) (at : ℕ) (c : Cursor) (is : c ≡ cursor_at tokens at) (e : ParseError) (to : Cursor) (n : ℕ) (h : p room c ≡ Err (record { rule = e; at = to })) (q : n ≡ length to.ahead) where
-      stop_all : e ≢ Broken S2 → (place : ℕ) → place ≡ place_at tokens (length tokens - n) → NoneBegins Spelled Any tokens at place
-      stop_all b place i =
-          let s : Stop = record { rule = e; at = to } in
-          let g = stops_of (p room) (cursor_at tokens at) s (((rs.of room).near).holds (cursor_at tokens at)) (ap (p room) (sym is) ∙ h) in
-          stopped Spelled height room (p room) (rs.of room) Any tokens at place s g (stops_for_all (cursor_at tokens at) s g b) (i ∙ ap (λ m. place_at tokens (length tokens - m)) q)
+      at_start : p room (cursor_at tokens at) ≡ Err (record { rule = e; at = to })
+      at_start = ap (p room) (sym is) ∙ h
 
-      is_refused : (rule : SynRule) → e ≡ Broken rule → (place : ℕ) → place ≡ place_at tokens (length tokens - n) → IsRefused Spelled height room tokens at rule place
-      is_refused S1 b place i = stop_all (λ w. cc) place i
-      is_refused S2 b place i = stop_deep Spelled height room (p room) (rs.of room) tokens at c is (record { rule = e; at = to }) n h q place i
+      place_left : (place : ℕ) → place ≡ place_at tokens (length tokens - n) → place ≡ place_at tokens (length tokens - length to.ahead)
+      place_left place i = i ∙ ap (λ m. place_at tokens (length tokens - m)) q
 
-      pub answer_stop : {B : Type 0} (tree : B → A) (rule : SynRule) (f : Fault SynRule) → e ≡ Broken rule → f ≡ Refused rule (place_at tokens (length tokens - n)) → IsAnswer Spelled height room tree tokens at (Err f)
-      answer_stop tree rule f b i = subst (λ g. IsAnswer Spelled height room tree tokens at (Err g)) (sym i) (is_refused rule b (place_at tokens (length tokens - n)) refl)
+      module _ (rule : SynRule) (b : e ≡ Broken rule) (place : ℕ) (i : place ≡ place_at tokens (length tokens - n)) where
+        is_refused : (o : Outcome A) (d : Cursor) → at ≤ length tokens → d ≡ cursor_at (take (length tokens - n) tokens) at → p room d ≡ o → NotWhole o → IsRefused Spelled height room tokens at rule place
+        is_refused o d k f r w =
+            let s : Stop = record { rule = e; at = to } in
+            let end = length tokens - length to.ahead in
+            let g = stops_of (p room) (cursor_at tokens at) s (((rs.of room).near).holds (cursor_at tokens at)) at_start in
+            let left : drop end tokens ≡ to.ahead = left_of at tokens g.front to.ahead g.split in
+            let split : drop at tokens ≡ g.front ++ drop end tokens = g.split ∙ ap (λ l. g.front ++ l) (sym left) in
+            let less : at ≤ end = stop_within Spelled height room (p room) (rs.of room) tokens at s k at_start in
+            let most : end ≤ length tokens = omega arith in
+            let run : drop at (take end tokens) ≡ g.front = append_cancel_right (drop at (take end tokens)) g.front (drop end tokens) (front_behind at end tokens less most ∙ split) in
+            let front : p room (record { ended = ended_at tokens at; ahead = g.front }) ≡ o =
+            ap (λ l. p room (record { ended = ended_at tokens at; ahead = l })) (sym run) ∙ ap (λ z. p room (record { ended = z; ahead = drop at (take end tokens) })) (sym (ended_front at end tokens less)) ∙ ap (λ m. p room (cursor_at (take (length tokens - m) tokens) at)) (sym q) ∙ ap (p room) (sym f) ∙ r in
+            record {
+              end = end;
+              within = most;
+              run = g.front;
+              split = split;
+              place_is = place_left place i;
+              alone = not_whole o (ended_at tokens at) g.front w front;
+              refused = subst (NoneGoesOn Spelled (Asked Spelled height room rule) (ended_at tokens at) g.front) (sym (ap head left) ∙ sym (get_at end tokens)) (stops_by rule (cursor_at tokens at) s g b);
+            }
+
+        is_stop : Stopped (p room) tokens at rule place
+        is_stop = record { stop = to; stops = rw (← b) at_start; place_is = place_left place i }
+
+      pub answer_refused : {B : Type 0} (tree : B → A) (rule : SynRule) (f : Fault SynRule) (o : Outcome A) (d : Cursor) → e ≡ Broken rule → f ≡ Refused rule (place_at tokens (length tokens - n)) → at ≤ length tokens
+          → d ≡ cursor_at (take (length tokens - n) tokens) at → p room d ≡ o → NotWhole o → IsAnswer Spelled height room tree tokens at (Err f)
+      answer_refused tree rule f o d b i k m r w = subst (λ g. IsAnswer Spelled height room tree tokens at (Err g)) (sym i) (is_refused rule b (place_at tokens (length tokens - n)) refl o d k m r w)
+
+      pub answer_stop : (B : Type 0) (rule : SynRule) (f : Fault SynRule) → e ≡ Broken rule → f ≡ Refused rule (place_at tokens (length tokens - n)) → IsStop {B = B} (p room) tokens at (Err f)
+      answer_stop B rule f b i = subst (λ g. IsStop {B = B} (p room) tokens at (Err g)) (sym i) (is_stop rule b (place_at tokens (length tokens - n)) refl)

@@ -1,5 +1,5 @@
 -- What a reader of one tree at a place among tokens answers.
-use Rattle.std.specs.Prelude.{◌≡◌, ◌≤◌, ℕ, zero, suc, Bool, List, [], ◌∷◌, ◌++◌, length, drop, slice_get, Option, Some, None, Result, Ok, Err, if◌then◌else◌}
+use Rattle.std.specs.Prelude.{◌≡◌, ◌≤◌, ◌-◌, ℕ, zero, suc, Bool, List, [], ◌∷◌, ◌++◌, length, drop, slice_get, Option, Some, None, Result, Ok, Err, if◌then◌else◌}
 use Rattle.pa_num.specs.declared.fault.Fault.{Fault}
 use Rattle.pa_num.specs.declared.fault.Fault.TheVariants.{Refused, Memory}
 use Rattle.pa_lex.specs.declared.token.Token.{Token}
@@ -12,6 +12,8 @@ use Rattle.pa_reading.specs.declared.rule.Naming.{Naming}
 use Rattle.pa_reading.specs.declared.rule.Naming.TheVariants as naming
 use Rattle.pa_reading.specs.declared.rule.SynRule.{SynRule}
 use Rattle.pa_reading.specs.declared.rule.SynRule.TheVariants.{S1, S2}
+use Rattle.pa_reading.specs.declared.rule.ParseError.TheVariants.{Broken}
+use Rattle.pa_reading.specs.Parser.{Parser}
 
 -- the most levels on a path of a tree in a file
 abbrev pub most_levels : ℕ
@@ -57,24 +59,15 @@ module _ {A : Type 0} (Spelled : A → Cursor → Cursor → Type 0) (such : A �
   pub record NoneGoesOn (ended : ℕ) (run : List Token) (next : Option Token) : Type 0 where
     pub none : (tree : A) (more : List Token) (to : ℕ) → next ≡ head more → Spelled tree (record { ended = ended; ahead = run ++ more }) (record { ended = to; ahead = [] }) → such tree → ⊥
 
-  -- No such tree begins with the tokens from the one numbered `at` up to and with the one at this place, or with all of them where it is
-  -- the last one's end.
-  pub record NoneBegins (tokens : List Token) (at : ℕ) (place : ℕ) : Type 0 where
-    pub end : ℕ
-    pub within : end ≤ length tokens
-    pub run : List Token
-    pub split : drop at tokens ≡ run ++ drop end tokens
-    pub place_is : place ≡ place_at tokens end
-    pub refused : NoneGoesOn (ended_at tokens at) run (slice_get tokens end)
-
--- whatever its height
-abbrev pub Any : {A : Type 0} → A → Type 0
-Any tree = Unit {0}
-
 -- trees of a form, which tokens they spell, and how deep they may be
 module _ {A : Type 0} (Spelled : A → Cursor → Cursor → Type 0) (height : A → ℕ) (room : ℕ) where
   abbrev pub Fitting : A → Type 0
   Fitting tree = height tree ≤ room
+
+  -- the trees that a rule speaks of: at S1 all of them
+  abbrev pub Asked : SynRule → A → Type 0
+  Asked S1 tree = Unit {0}
+  Asked S2 tree = Fitting tree
 
   -- The tokens from the one numbered `at` up to the one numbered `end` spell the tree, and they are the longest list from there that
   -- begins a tree that fits.
@@ -87,10 +80,16 @@ module _ {A : Type 0} (Spelled : A → Cursor → Cursor → Type 0) (height : A
     pub fits : Fitting tree
     pub longest : (t : Token) → slice_get tokens end ≡ Some t → NoneGoesOn Spelled Fitting (ended_at tokens at) run (Some t)
 
-  -- At S1 no tree begins so, and at S2 none that fits.
-  abbrev pub IsRefused : List Token → ℕ → SynRule → ℕ → Type 0
-  IsRefused tokens at S1 place = NoneBegins Spelled Any tokens at place
-  IsRefused tokens at S2 place = NoneBegins Spelled Fitting tokens at place
+  -- The tokens from the one numbered `at` up to the one at this place, or all of them where it is the last one's end, are no tree's that
+  -- fits. With the one there they begin none that fits either, and at S1 no tree at all.
+  pub record IsRefused (tokens : List Token) (at : ℕ) (rule : SynRule) (place : ℕ) : Type 0 where
+    pub end : ℕ
+    pub within : end ≤ length tokens
+    pub run : List Token
+    pub split : drop at tokens ≡ run ++ drop end tokens
+    pub place_is : place ≡ place_at tokens end
+    pub alone : NoneGoesOn Spelled Fitting (ended_at tokens at) run None
+    pub refused : NoneGoesOn Spelled (Asked rule) (ended_at tokens at) run (slice_get tokens end)
 
   -- `tree`: a tree of the program as plain data
   module _ {B : Type 0} (tree : B → A) where
@@ -98,3 +97,15 @@ module _ {A : Type 0} (Spelled : A → Cursor → Cursor → Type 0) (height : A
     IsAnswer tokens at (Ok q) = IsLongest tokens at (tree q.0) q.1
     IsAnswer tokens at (Err (Refused rule place)) = IsRefused tokens at rule place
     IsAnswer tokens at (Err Memory) = Unit {0}
+
+-- This reader, in front of the token of this number, stops at that place, by that rule.
+pub record Stopped {A : Type 0} (read : Parser A) (tokens : List Token) (at : ℕ) (rule : SynRule) (place : ℕ) : Type 0 where
+  pub stop : Cursor
+  pub stops : read (cursor_at tokens at) ≡ Err (record { rule = Broken rule; at = stop })
+  pub place_is : place ≡ place_at tokens (length tokens - length stop.ahead)
+
+-- A refusal is the reader's own.
+abbrev pub IsStop : {A B : Type 0} → Parser A → List Token → ℕ → Result B (Fault SynRule) → Type 0
+IsStop read tokens at (Ok q) = Unit {0}
+IsStop read tokens at (Err (Refused rule place)) = Stopped read tokens at rule place
+IsStop read tokens at (Err Memory) = Unit {0}
