@@ -1,9 +1,10 @@
 use super::{load_program, program_image};
 use pa_image::{Image, legal, write_image};
 use pa_mem::{Abort, Size};
+use pa_num::Memory;
 use pa_pac::FoldPac;
 use pa_straight::read;
-use std::alloc::{AllocError, Global};
+use std::alloc::Global;
 use std::test::Fail;
 
 const HELLO: &[u8] =
@@ -39,7 +40,7 @@ const STUB: [u32; 4] = [
     0xD71F_0A11, // braa x16, x17
 ];
 
-fn image_of(alloc: Global, text: &[u8]) -> Result<Option<Image>, AllocError> {
+fn image_of(alloc: Global, text: &[u8]) -> Result<Option<Image>, Memory> {
     match read(alloc, text)? {
         Some(program) => Ok(Some(program_image(alloc, &program)?)),
         None => Ok(None),
