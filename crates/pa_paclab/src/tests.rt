@@ -165,7 +165,7 @@ fn a_sink_that_fails_leaves_a_prefix(rt: HostRuntime) -> Result<(), Fail> {
         ("octal.c", NOT_BUILT, NOT_BUILT, REFUSED),
     ];
     for (name, whole, cut, text) in cases {
-        for failing in [1, 2, 40, 200, 1_000] {
+        for failing in 1..260 {
             let mut input = SureSource::new(Bytes::new(alloc));
             let mut out = sink(alloc, failing)?;
             let words = words(alloc, &["run", name])?;
