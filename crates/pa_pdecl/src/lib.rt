@@ -13,3 +13,6 @@ mod typedef;
 mod word;
 
 pub use parser::parse;
+
+#[cfg(test)]
+mod tests;
