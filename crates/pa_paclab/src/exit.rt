@@ -50,7 +50,7 @@ pub enum Exit {
     InputFault,
     /// The text of a command that is done couldn't be written; a prefix of it may be out.
     WriteFault,
-    /// Want of memory, and nothing else.
+    /// Want of memory.
     Memory,
 }
 

@@ -93,9 +93,9 @@ fn answer<H: Shelf, P: Pac>(
 }
 
 /// Does what the words ask for, with the files of a shelf, the bytes of a source and the host's function for the
-/// authentication code, and writes what is printed: all of it where the answer is `Done`, and otherwise one line that tells the
-/// answer. `run FILE` compiles the file to an image, loads it, runs it for at most a million instructions, and prints the report.
-/// The answer doesn't depend on whether such a line could be written.
+/// authentication code, and writes what is printed: the whole report where the answer is `Done`, a prefix of it where it is
+/// `WriteFault`, and otherwise one line that tells the answer, or a prefix of that line where the sink fails. `run FILE` compiles
+/// the file to an image, loads it, runs it for at most a million instructions, and prints the report.
 pub fn paclab<H: Shelf, S: Source, K: Sink, P: Pac>(
     alloc: Global,
     words: &[String],
