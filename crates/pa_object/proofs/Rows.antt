@@ -2,7 +2,7 @@
 use Rattle.std.proofs.Common.{◌≡◌, ℕ, suc, Bool, true, false, cond, List, [], ◌∷◌, ◌++◌, get_or, set, refl, sym, ◌∙◌, get_or-set_other}
 use Rattle.std.specs.Prelude.{◌==◌, ◌||◌, eqb}
 use Rattle.std.specs.List.{list_any}
-use Rattle.std.proofs.lemmas.Bool.{eq-eqb, true≢false}
+use Rattle.std.proofs.lemmas.Bool.{eq-eqb, or_parts, true≢false}
 use Rattle.pa_num.specs.Arithmetic.{add64, scaled64}
 use Rattle.pa_pac.specs.Signing.{Code}
 use Rattle.pa_a64.specs.declared.instr.Instr.{Instr}
@@ -36,13 +36,9 @@ chosen : (b : Bool) (registers : List ℕ) (i j v : ℕ) → eqb j i ≡ false �
 chosen true registers i j v ne = refl
 chosen false registers i j v ne = beside registers i j v ne
 
-neither : (a b : Bool) → (a || b) ≡ false → (a ≡ false) × (b ≡ false)
-neither false b e = (refl, e)
-neither true b e = cc
-
 both : (registers : List ℕ) (i k j v w : ℕ) → (eqb j i || eqb j k) ≡ false → get_or (set (set registers i v) k w) j 0 ≡ get_or registers j 0
 both registers i k j v w ne =
-    let p = neither (eqb j i) (eqb j k) ne in
+    let p = or_parts (eqb j i) (eqb j k) ne in
     beside (set registers i v) k j w p.1 ∙ beside registers i j v p.0
 
 called_register : (number : ℕ) (m : Machine) (r : ℕ) → eqb r 0 ≡ false → register r (called number m) ≡ register r m
