@@ -1,11 +1,13 @@
 pub mod Comparing
 pub mod Fetched
+pub mod Filled
 pub mod Growth
 pub mod Linked
 pub mod Marked
 pub mod Placed
 pub mod Rounding
 pub mod Rows
+pub mod Shapes
 pub mod Stepping
 pub mod Steps
 pub mod StepsBranching
@@ -14,5 +16,7 @@ pub mod StepsLeads
 pub mod StepsMemory
 pub mod StepsRun
 pub mod StepsSigning
+pub mod Stub
 pub mod Watching
 pub mod Wide
+pub mod Worked
