@@ -1,0 +1,2 @@
+mod Above
+pub mod Runs
