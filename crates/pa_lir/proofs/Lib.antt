@@ -1,2 +1,3 @@
 mod Above
+mod Rows
 pub mod Runs
