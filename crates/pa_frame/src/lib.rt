@@ -3,6 +3,8 @@
 
 mod layout;
 mod slots;
+#[cfg(test)]
+mod tests;
 
 pub use layout::frame;
 pub use slots::{Frame, Slots};
