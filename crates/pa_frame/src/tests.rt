@@ -1,5 +1,5 @@
 //! Frames worked by hand.
-ghost use Rattle.std.specs.Prelude.{IfOk};
+ghost use Rattle.std.specs.Prelude.{◌≡◌, IfOk};
 ghost use Rattle.pa_lir.specs.Ready.{HasFrame};
 
 use crate::frame;
@@ -13,10 +13,8 @@ fn function(alloc: Global, parameters: u32, sizes: [u8; 3], temp: u8) -> Result<
     ensures { IfOk result HasFrame }
 {
     let [first, second, third] = sizes;
-    let mut locals = Locals::new(alloc);
-    locals.push(local(first))?;
-    locals.push(local(second))?;
-    locals.push(local(third))?;
+    let sized: [LirLocal; 3] = [local(first), local(second), local(third)];
+    let locals = Locals::from_slice(alloc, &sized[..])?;
     let mut ops = Ops::new(alloc);
     ops.push(Op::Const {
         to: u32::from(temp),
@@ -31,7 +29,9 @@ fn function(alloc: Global, parameters: u32, sizes: [u8; 3], temp: u8) -> Result<
     })
 }
 
-fn local(size: u8) -> LirLocal {
+fn local(size: u8) -> LirLocal
+    ensures { result.size ≡ size }
+{
     LirLocal {
         size: u64::from(size),
         align: 1,
