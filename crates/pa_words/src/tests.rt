@@ -89,7 +89,8 @@ fn options_stand_before_and_behind_operands(rt: HostRuntime) -> Result<(), Fail>
 #[test]
 fn what_is_not_said_has_its_default(rt: HostRuntime) -> Result<(), Fail> {
     let parts = parted(rt.alloc(), "exec a.out")?;
-    let Ok(Command::Exec { image, options }) = words(rt.alloc(), &parts) else {
+    let spelled = words(rt.alloc(), &parts);
+    let Ok(Command::Exec { image, options }) = &spelled else {
         assert!(rt; false, "exec");
         return Ok(());
     };
@@ -101,6 +102,11 @@ fn what_is_not_said_has_its_default(rt: HostRuntime) -> Result<(), Fail> {
     assert_eq!(rt; options.pac, PacName::Host);
     assert_eq!(rt; options.seed, 0);
     assert_eq!(rt; options.log, LogForm::Full);
+    Ok(())
+}
+
+#[test]
+fn a_meaning_has_an_input_and_a_fuel(rt: HostRuntime) -> Result<(), Fail> {
     let parts = parted(rt.alloc(), "mean --input - a.c")?;
     let Ok(Command::Mean { files, options }) = words(rt.alloc(), &parts) else {
         assert!(rt; false, "mean");
@@ -113,32 +119,54 @@ fn what_is_not_said_has_its_default(rt: HostRuntime) -> Result<(), Fail> {
 }
 
 #[test]
-fn each_command_is_spelled(rt: HostRuntime) -> Result<(), Fail> {
+fn a_large_program_has_two_numbers(rt: HostRuntime) -> Result<(), Fail> {
     let parts = parted(rt.alloc(), "bulk 18446744073709551615 2000")?;
-    assert!(rt;
-        matches!(
-            words(rt.alloc(), &parts),
-            Ok(Command::Bulk {
-                seed: u64::MAX,
-                size: 2_000
-            })
-        )
-    );
-    let parts = parted(rt.alloc(), "disc ''")?;
-    assert!(rt;
-        matches!(words(rt.alloc(), &parts), Ok(Command::Disc { text }) if text.as_str() == "")
-    );
-    let parts = parted(rt.alloc(), "disc -- --text")?;
-    assert!(rt;
-        matches!(words(rt.alloc(), &parts), Ok(Command::Disc { text }) if text.as_str() == "--text")
-    );
-    let parts = parted(rt.alloc(), "check -")?;
-    assert!(rt;
-        matches!(words(rt.alloc(), &parts), Ok(Command::Check { image }) if image.as_str() == "-")
-    );
-    let parts = parted(rt.alloc(), "build a.c b.c")?;
-    assert!(rt;
-        matches!(words(rt.alloc(), &parts), Ok(Command::Build { files }) if files.len() == 2)
-    );
+    let Ok(Command::Bulk { seed, size }) = words(rt.alloc(), &parts) else {
+        assert!(rt; false, "bulk");
+        return Ok(());
+    };
+    assert_eq!(rt; seed, u64::MAX);
+    assert_eq!(rt; size, 2_000);
+    Ok(())
+}
+
+#[test]
+fn a_text_may_be_any_word(rt: HostRuntime) -> Result<(), Fail> {
+    let rows = [
+        ("disc ''", ""),
+        ("disc -", "-"),
+        ("disc -- --text", "--text"),
+    ];
+    for (line, wanted) in rows {
+        let parts = parted(rt.alloc(), line)?;
+        let spelled = words(rt.alloc(), &parts);
+        match &spelled {
+            Ok(Command::Disc { text }) => assert_eq!(rt; text.as_str(), wanted),
+            _ => assert!(rt; false, "{line}"),
+        }
+    }
+    Ok(())
+}
+
+#[test]
+fn sources_are_built(rt: HostRuntime) -> Result<(), Fail> {
+    let sources = parted(rt.alloc(), "build a.c b.c")?;
+    let Ok(Command::Build { files }) = words(rt.alloc(), &sources) else {
+        assert!(rt; false, "build");
+        return Ok(());
+    };
+    assert_eq!(rt; files.len(), 2);
+    Ok(())
+}
+
+#[test]
+fn an_image_is_checked(rt: HostRuntime) -> Result<(), Fail> {
+    let parts = parted(rt.alloc(), "check a.out")?;
+    let spelled = words(rt.alloc(), &parts);
+    let Ok(Command::Check { image }) = &spelled else {
+        assert!(rt; false, "check");
+        return Ok(());
+    };
+    assert_eq!(rt; image.as_str(), "a.out");
     Ok(())
 }
