@@ -1,6 +1,12 @@
+pub mod Fetched
+pub mod Growth
+pub mod Linked
+pub mod Marked
 pub mod Placed
+pub mod Rows
+pub mod Stepping
 pub mod Steps
 pub mod StepsLeads
 pub mod StepsRun
-pub mod Growth
-pub mod Linked
+pub mod Watching
+pub mod Wide

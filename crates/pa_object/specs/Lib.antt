@@ -1,6 +1,8 @@
 pub mod Effects
 pub mod Linkable
 pub mod Machine
+pub mod Marked
+pub mod Rows
 pub mod Run
 pub mod Script
 pub mod Shape
