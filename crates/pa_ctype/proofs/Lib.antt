@@ -1,14 +1,19 @@
-pub mod Bounds
-pub mod Cells
-pub mod Copies
-pub mod Depth
-pub mod Examples
-pub mod Growth
-pub mod Kept
-pub mod Laws
-pub mod Objects
-pub mod Raised
-pub mod Results
-pub mod Sameness
-pub mod Variants
-pub mod Views
+mod Answering
+mod Cells
+mod Constants
+mod Depth
+mod Examples
+mod Extents
+mod Finding
+mod Functions
+mod Growth
+mod KeptGrowth
+mod KindLaws
+mod Laws
+mod Laying
+mod NodeTable
+mod Objects
+mod RaisedLaws
+mod Results
+mod Sameness
+mod TypeLaws
