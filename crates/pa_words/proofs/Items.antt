@@ -1,9 +1,8 @@
 -- Lists of items.
-use Rattle.std.proofs.Common.{◌≡◌, ℕ, List, [], ◌∷◌, ◌++◌, map, Bool, true, false, refl, sym, ap, ◌∙◌, if◌then◌else◌, Option, Some, None}
+use Rattle.std.proofs.Common.{◌≡◌, ℕ, List, [], ◌∷◌, ◌++◌, map, Bool, true, false, refl, ap, if◌then◌else◌, Some, None}
 use Rattle.std.specs.Str.{bytes_eq}
 use Rattle.std.specs.Option.{option_or}
-use Rattle.std.proofs.lemmas.List.{append-nil, append_assoc}
-use Rattle.pa_words.specs.Usage.{Item, Pair, Bare, Operand, items, operands, value_of}
+use Rattle.pa_words.specs.Usage.{Item, Pair, Bare, Operand, operands, value_of}
 
 -- the value of an option behind more items
 pub value_of-append : (option : List ℕ) (front behind : List Item) → value_of option (front ++ behind) ≡ option_or (value_of option front) (value_of option behind)

@@ -1,9 +1,8 @@
 -- An option more.
-use Rattle.std.proofs.Common.{◌≡◌, ℕ, List, [], ◌∷◌, ◌++◌, Bool, true, false, refl, sym, ap, subst, ◌∙◌, codes, arith, Option, Some, None, ◌⊎◌, inl, inr, Result, Ok, Err}
-use Rattle.std.specs.Prelude.{is_some, not, if◌then◌else◌}
+use Rattle.std.proofs.Common.{◌≡◌, ℕ, List, [], ◌∷◌, ◌++◌, Bool, true, false, refl, sym, ap, subst, ◌∙◌, codes, arith, Option, Some, None, ◌⊎◌, inl, inr}
+use Rattle.std.specs.Prelude.{is_some, if◌then◌else◌}
 use Rattle.std.specs.Option.{option_or, option_map, option_and_then}
 use Rattle.std.specs.Str.{bytes_eq}
-use Rattle.std.proofs.lemmas.Bool.{true≢false}
 use Rattle.std.proofs.lemmas.Grind.{common_steps}
 use Rattle.std.proofs.lemmas.Slice.Eq.{bytes_eq-Decides}
 use Rattle.pa_words.specs.declared.names.CommandName.{CommandName}
@@ -13,7 +12,7 @@ use Rattle.pa_words.specs.Names.{option_named, takes}
 use Rattle.pa_words.specs.Values.{allowed}
 use Rattle.pa_words.specs.Fields.{given_in, is_given, with_option}
 use Rattle.pa_words.specs.Reading.{word_of}
-use Rattle.pa_words.specs.Usage.{Item, Pair, Bare, Operand, input_of, value_of, is_some_and, allows, takes_word}
+use Rattle.pa_words.specs.Usage.{Item, Pair, input_of, value_of, is_some_and, allows, takes_word}
 use Rattle.pa_words.proofs.Items.{value_of-append}
 
 pub bytes_same : (xs ys : List ℕ) → bytes_eq xs ys ≡ true → xs ≡ ys

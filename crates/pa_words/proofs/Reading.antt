@@ -1,11 +1,10 @@
 -- A word more is read.
-use Rattle.std.proofs.Common.{◌≡◌, ℕ, List, [], ◌∷◌, ◌++◌, map, Bool, true, false, refl, sym, ap, subst, ◌∙◌, codes, arith, if◌then◌else◌, Option, Some, None}
-use Rattle.std.specs.Prelude.{is_some, not}
+use Rattle.std.proofs.Common.{◌≡◌, ℕ, List, [], ◌∷◌, ◌++◌, map, true, false, refl, sym, ap, subst, ◌∙◌, codes, arith, if◌then◌else◌, Option, Some, None}
+use Rattle.std.specs.Prelude.{is_some}
 use Rattle.std.specs.Option.{option_or}
 use Rattle.std.specs.Str.{bytes_eq}
 use Rattle.std.proofs.lemmas.List.{append-nil, append_assoc}
 use Rattle.std.proofs.lemmas.Grind.{common_steps}
-use Rattle.pa_words.specs.declared.command.UseFault.{UseFault}
 use Rattle.pa_words.specs.declared.command.UseFault.TheVariants.{U2, U3, U4, U5}
 use Rattle.pa_words.specs.declared.given.Given.{Given}
 use Rattle.pa_words.specs.declared.names.CommandName.{CommandName}
@@ -14,7 +13,7 @@ use Rattle.pa_words.specs.Answers.{AllRead}
 use Rattle.pa_words.specs.Names.{option_named}
 use Rattle.pa_words.specs.Fields.{given_in, is_given, with_option}
 use Rattle.pa_words.specs.Reading.{word_of, Reaches}
-use Rattle.pa_words.specs.Usage.{Item, Pair, Bare, Operand, is_option, items, with_value, value_of, operands, takes_word, allows, first_flaw}
+use Rattle.pa_words.specs.Usage.{Item, Pair, Operand, is_option, items, with_value, value_of, operands, takes_word, allows, first_flaw}
 use Rattle.pa_words.proofs.Items.{operands-append, operands-map, value_of-append, value_of-operands}
 use Rattle.pa_words.proofs.Options.{named_is, given_more, given_is, allowed_more, option_or-none}
 

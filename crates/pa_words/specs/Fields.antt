@@ -1,5 +1,5 @@
 -- What has been given so far, field by field.
-use Rattle.std.specs.Prelude.{◌≡◌, ℕ, List, Bool, Option, Some, is_some}
+use Rattle.std.specs.Prelude.{◌≡◌, ℕ, List, Bool, Some, is_some}
 use Rattle.pa_words.specs.declared.names.OptionName.{OptionName}
 use Rattle.pa_words.specs.declared.names.OptionName.TheVariants as option
 use Rattle.pa_words.specs.declared.command.MeanOptions.{MeanOptions}

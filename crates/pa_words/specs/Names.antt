@@ -1,5 +1,5 @@
 -- The names of commands, options and of what options take by name.
-use Rattle.std.specs.Prelude.{ℕ, List, [], ◌∷◌, Bool, true, false, if◌then◌else◌, Option, Some, None, codes}
+use Rattle.std.specs.Prelude.{ℕ, List, Bool, true, false, if◌then◌else◌, Option, Some, None, codes}
 use Rattle.std.specs.Str.{bytes_eq}
 use Rattle.pa_words.specs.declared.names.CommandName.{CommandName}
 use Rattle.pa_words.specs.declared.names.CommandName.TheVariants.{Run, Build, Exec, Check, Mean, Disc, Bulk}

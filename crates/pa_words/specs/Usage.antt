@@ -1,11 +1,10 @@
 -- The command that words spell, or the first rule of usage that they break.
-use Rattle.std.specs.Prelude.{ℕ, List, [], ◌∷◌, map, Bool, true, false, nat_eq, ◌++◌, not, if◌then◌else◌, Option, Some, None, is_some, unwrap_or, Result, Ok, Err, codes}
+use Rattle.std.specs.Prelude.{ℕ, List, [], ◌∷◌, map, Bool, false, nat_eq, ◌++◌, not, if◌then◌else◌, Option, Some, None, is_some, unwrap_or, Result, Ok, Err, codes}
 use Rattle.std.specs.List.{starts_with}
 use Rattle.std.specs.Option.{option_map, option_and_then}
 use Rattle.std.specs.Str.{bytes_eq}
 use Rattle.pa_words.specs.declared.names.CommandName.{CommandName}
 use Rattle.pa_words.specs.declared.names.CommandName.TheVariants as name
-use Rattle.pa_words.specs.declared.names.OptionName.{OptionName}
 use Rattle.pa_words.specs.declared.names.PacName.{PacName}
 use Rattle.pa_words.specs.declared.names.PacName.TheVariants.{Host}
 use Rattle.pa_words.specs.declared.names.LogForm.{LogForm}
@@ -19,7 +18,7 @@ use Rattle.pa_words.specs.declared.command.RunOptions.{RunOptions}
 use Rattle.pa_words.specs.declared.command.Command.{Command}
 use Rattle.pa_words.specs.declared.command.Command.TheVariants as command
 use Rattle.pa_words.specs.Names.{command_named, option_named, pac_named, log_named, takes}
-use Rattle.pa_words.specs.Values.{allowed, number_within, steps_of, slide_of, seed_of, fuel_of, size_of}
+use Rattle.pa_words.specs.Values.{allowed, steps_of, slide_of, seed_of, fuel_of, size_of}
 
 -- what stands behind the command's name: an option with its value, an option at the end, or an operand
 pub data Item : Type 0 where

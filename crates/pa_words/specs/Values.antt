@@ -1,6 +1,6 @@
 -- What the words behind options, and the numbers of `bulk`, say.
-use Rattle.std.specs.Prelude.{ℕ, List, Bool, true, false, ◌&&◌, ◌^◌, ◌-◌, nat_le, length, if◌then◌else◌, Option, Some, None, is_some, codes}
-use Rattle.std.specs.Str.{all_ascii_digits, bytes_eq}
+use Rattle.std.specs.Prelude.{ℕ, List, Bool, true, ◌&&◌, ◌^◌, ◌-◌, nat_le, length, if◌then◌else◌, Option, Some, None, is_some}
+use Rattle.std.specs.Str.{all_ascii_digits}
 use Rattle.std.specs.Str.Parse.{digits_value}
 use Rattle.pa_words.specs.declared.names.OptionName.{OptionName}
 use Rattle.pa_words.specs.declared.names.OptionName.TheVariants as option

@@ -1,5 +1,5 @@
 -- Words are read to their end.
-use Rattle.std.proofs.Common.{◌≡◌, List, [], ◌∷◌, ◌++◌, ℕ, map, length, string_bytes, true, false, arith, sym, ◌∙◌, ap, subst, codes, Result, Ok, Err}
+use Rattle.std.proofs.Common.{◌≡◌, List, [], ◌∷◌, ◌++◌, ℕ, map, string_bytes, true, false, arith, sym, ◌∙◌, ap, subst, codes, Result, Ok, Err}
 use Rattle.std.specs.Prelude.{IfErr, IsErrAnd, Some}
 use Rattle.std.specs.Str.{bytes_eq}
 use Rattle.std.proofs.lemmas.Grind.{common_steps}
