@@ -15,7 +15,7 @@ use Rattle.pa_reading.specs.declared.rule.ParseError.TheVariants.{Broken}
 use Rattle.pa_reading.specs.Answers.{to_of, ended_at, cursor_at, place_at, NoneGoesOn, Fitting, Asked, IsLongest, IsRefused, IsAnswer, Stopped, IsStop}
 use Rattle.pa_reading.specs.Parser.{Parser, Outcome, Stop}
 use Rattle.pa_reading.proofs.Local.{Local, LocalAt, Gives, Stops, with_ahead}
-use Rattle.pa_reading.proofs.Meets.{Meets, IfRead}
+use Rattle.pa_reading.proofs.Meets.{Meets}
 use Rattle.pa_reading.proofs.Frame.{on}
 
 -- the token of a number stands first behind those in front of it

@@ -1,5 +1,5 @@
 -- What a reader of one tree at a place among tokens answers.
-use Rattle.std.specs.Prelude.{◌≡◌, ◌≤◌, ◌-◌, ℕ, zero, suc, Bool, List, [], ◌∷◌, ◌++◌, length, drop, slice_get, Option, Some, None, Result, Ok, Err, if◌then◌else◌}
+use Rattle.std.specs.Prelude.{◌≡◌, ◌≤◌, ◌-◌, ℕ, zero, suc, Bool, List, [], ◌++◌, length, drop, slice_get, Option, Some, None, Result, Ok, Err, if◌then◌else◌}
 use Rattle.pa_num.specs.declared.fault.Fault.{Fault}
 use Rattle.pa_num.specs.declared.fault.Fault.TheVariants.{Refused, Memory}
 use Rattle.pa_lex.specs.declared.token.Token.{Token}
@@ -50,7 +50,7 @@ abbrev pub place_at : List Token → ℕ → ℕ
 place_at tokens end = place_by tokens end (slice_get tokens end)
 
 -- from c to d stand the tokens of a declarator that declares a name, or of one without a name (C11 6.7.6, 6.7.7)
-abbrev pub DeclaratorOf : List (List ℕ) → Bool → DeclaratorTree → Cursor → Cursor → Type 0
+abbrev pub DeclaratorOf : List ℕ → Bool → DeclaratorTree → Cursor → Cursor → Type 0
 DeclaratorOf names named x c d = (has_name x ≡ named) × DeclaratorSpells names 0 x c d
 
 -- trees of a form: which tokens they spell, and which of them are asked for
