@@ -1,0 +1,5 @@
+pub mod Computing
+pub mod Exact
+mod RowsPlaces
+mod RowsValues
+pub mod Sample
