@@ -9,7 +9,7 @@ use Rattle.pa_ctype.specs.Types.{TypeTree, Of, FormTree, Void, Boolean, Integer,
 use Rattle.pa_ctype.specs.Kept.{AreFine}
 use Rattle.pa_ctype.specs.Layouts.{Body, Table, body_of, times, placed, empty, padded, members_from, struct_layout, layout_by, form_layout_by, laid, layout_in}
 use Rattle.pa_ctype.specs.Values.{Cell, cell_at, elements, elements_of, scalar, member_cells, member_cells_by, cells_by, form_cells_by, body_cells, cells_of, cells_in}
-use Rattle.pa_ctype.proofs.Kept.{members_at_least, multiple_at_least}
+use Rattle.pa_ctype.proofs.Laying.{members_at_least, multiple_at_least}
 use Rattle.pa_ctype.proofs.Laws.{then_some, small_is, layout_by_fine, structs_at, structs_fine, laid_fine}
 use Rattle.pa_cmean.specs.Finding.{only_at, find_element, find_elements, find_member_by, find_member, find_by, find_form_by, find_in_body, find_to, find_cell}
 

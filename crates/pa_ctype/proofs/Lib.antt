@@ -9,10 +9,10 @@ mod Functions
 mod Growth
 mod KeptGrowth
 mod KindLaws
-mod Laws
-mod Laying
+pub mod Laws
+pub mod Laying
 mod NodeTable
-mod Objects
+pub mod Objects
 mod RaisedLaws
 mod Results
 mod Sameness

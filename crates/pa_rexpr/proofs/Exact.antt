@@ -7,7 +7,7 @@ use Rattle.pa_ctype.specs.Layouts.{Table}
 use Rattle.pa_rexpr.specs.declared.rule.TypeRule.{TypeRule}
 use Rattle.pa_rexpr.specs.declared.rule.TypeRule.TheVariants.{C24}
 use Rattle.pa_rexpr.specs.Answers.{Answer, Broken, breaks_at, then_with, in_order}
-use Rattle.pa_rexpr.specs.Scope.{Scope}
+use Rattle.pa_rexpr.specs.Scope.{Spelling, Scope}
 use Rattle.pa_rexpr.specs.Values.{Typed, read}
 use Rattle.pa_rexpr.specs.Operators.{conditional}
 use Rattle.pa_rexpr.specs.Places.{subscript, member, arrow, stepped, size_of, binary}
@@ -110,130 +110,130 @@ alone x = told_as (λ t. x ≡ Ok t) (λ rule at. x ≡ breaks_at rule at) x (λ
 mutual
   unfolding typing Told
 
-  pub told : (s : Scope) (n : ℕ) (e : ExprTree) → Told (Has s n e) (Breaks s n e) (typing s n e)
-  told s n (tree.Identifier name a z) = alone (named s name a)
-  told s n (tree.Integer v d u l a z) = alone (integer_literal v d u l a)
-  told s n (tree.Character value a z) = refl
-  told s n (tree.Text bytes a z) = refl
-  told s n (tree.Paren inner a z) = told s n inner
-  told s n (tree.Index of at a z) = two (Has s n of) (Breaks s n of) (Has s (behind_texts n of) at) (Breaks s (behind_texts n of) at) (typing s n of) (typing s (behind_texts n of) at) (λ x y. subscript s.structs a (read x) (read y)) (told s n of) (told s (behind_texts n of) at)
-  told s n (tree.Call of es a z) = either_call (Has s n of) (Breaks s n of) (HasEach s (behind_texts n of) es) (BreaksEach s (behind_texts n of) es) (is_discriminator s of) s.structs a (is_name of) (only_text es) (typing s n of) (typing_each s (behind_texts n of) es) (told s n of) (told_each s (behind_texts n of) es)
-  told s n (tree.Dot of name a z) = one (Has s n of) (Breaks s n of) (typing s n of) (member s.structs a name) (told s n of)
-  told s n (tree.Arrow of name a z) = one (Has s n of) (Breaks s n of) (typing s n of) (λ x. arrow s.structs a name (read x)) (told s n of)
-  told s n (tree.Postfix op of a z) = one (Has s n of) (Breaks s n of) (typing s n of) (stepped s.structs a op true) (told s n of)
-  told s n (tree.Prefix op of a z) = one (Has s n of) (Breaks s n of) (typing s n of) (prefixed s.structs op a) (told s n of)
-  told s n (tree.SizeofExpr of a z) = one (Has s n of) (Breaks s n of) (typing s n of) (λ x. size_of s.structs a x.of) (told s n of)
-  told s n (tree.SizeofType of a z) = type_alone (type_name Operand s of) (size_of s.structs a)
-  told s n (tree.Cast wanted of a z) = of_type (Has s n of) (Breaks s n of) (type_name CastTarget s wanted) (typing s n of) (λ w x. cast s.structs a w (read x)) (told s n of)
-  told s n (tree.Binary op l r a z) = two (Has s n l) (Breaks s n l) (Has s (behind_texts n l) r) (Breaks s (behind_texts n l) r) (typing s n l) (typing s (behind_texts n l) r) (binary s.structs op a) (told s n l) (told s (behind_texts n l) r)
-  told s n (tree.Conditional x y w a z) =
-      three (Has s n x) (Breaks s n x) (Has s (behind_texts n x) y) (Breaks s (behind_texts n x) y) (Has s (behind_texts (behind_texts n x) y) w) (Breaks s (behind_texts (behind_texts n x) y) w) (typing s n x) (typing s (behind_texts n x) y) (typing s (behind_texts (behind_texts n x) y) w) (λ t u v. conditional s.structs a (read t) (read u) (read v)) (told s n x) (told s (behind_texts n x) y) (told s (behind_texts (behind_texts n x) y) w)
+  pub told : (spelling : Spelling) → (s : Scope) (n : ℕ) (e : ExprTree) → Told (Has spelling s n e) (Breaks spelling s n e) (typing spelling s n e)
+  told spelling s n (tree.Identifier name a z) = alone (named s (spelling name) a)
+  told spelling s n (tree.Integer v d u l a z) = alone (integer_literal v d u l a)
+  told spelling s n (tree.Character value a z) = refl
+  told spelling s n (tree.Text bytes a z) = refl
+  told spelling s n (tree.Paren inner a z) = told spelling s n inner
+  told spelling s n (tree.Index of at a z) = two (Has spelling s n of) (Breaks spelling s n of) (Has spelling s (behind_texts spelling n of) at) (Breaks spelling s (behind_texts spelling n of) at) (typing spelling s n of) (typing spelling s (behind_texts spelling n of) at) (λ x y. subscript s.structs a (read x) (read y)) (told spelling s n of) (told spelling s (behind_texts spelling n of) at)
+  told spelling s n (tree.Call of es a z) = either_call (Has spelling s n of) (Breaks spelling s n of) (HasEach spelling s (behind_texts spelling n of) es) (BreaksEach spelling s (behind_texts spelling n of) es) (is_discriminator spelling s of) s.structs a (is_name of) (only_text es) (typing spelling s n of) (typing_each spelling s (behind_texts spelling n of) es) (told spelling s n of) (told_each spelling s (behind_texts spelling n of) es)
+  told spelling s n (tree.Dot of name a z) = one (Has spelling s n of) (Breaks spelling s n of) (typing spelling s n of) (member s.structs a (spelling name)) (told spelling s n of)
+  told spelling s n (tree.Arrow of name a z) = one (Has spelling s n of) (Breaks spelling s n of) (typing spelling s n of) (λ x. arrow s.structs a (spelling name) (read x)) (told spelling s n of)
+  told spelling s n (tree.Postfix op of a z) = one (Has spelling s n of) (Breaks spelling s n of) (typing spelling s n of) (stepped s.structs a op true) (told spelling s n of)
+  told spelling s n (tree.Prefix op of a z) = one (Has spelling s n of) (Breaks spelling s n of) (typing spelling s n of) (prefixed s.structs op a) (told spelling s n of)
+  told spelling s n (tree.SizeofExpr of a z) = one (Has spelling s n of) (Breaks spelling s n of) (typing spelling s n of) (λ x. size_of s.structs a x.of) (told spelling s n of)
+  told spelling s n (tree.SizeofType of a z) = type_alone (type_name spelling Operand s of) (size_of s.structs a)
+  told spelling s n (tree.Cast wanted of a z) = of_type (Has spelling s n of) (Breaks spelling s n of) (type_name spelling CastTarget s wanted) (typing spelling s n of) (λ w x. cast s.structs a w (read x)) (told spelling s n of)
+  told spelling s n (tree.Binary op l r a z) = two (Has spelling s n l) (Breaks spelling s n l) (Has spelling s (behind_texts spelling n l) r) (Breaks spelling s (behind_texts spelling n l) r) (typing spelling s n l) (typing spelling s (behind_texts spelling n l) r) (binary s.structs op a) (told spelling s n l) (told spelling s (behind_texts spelling n l) r)
+  told spelling s n (tree.Conditional x y w a z) =
+      three (Has spelling s n x) (Breaks spelling s n x) (Has spelling s (behind_texts spelling n x) y) (Breaks spelling s (behind_texts spelling n x) y) (Has spelling s (behind_texts spelling (behind_texts spelling n x) y) w) (Breaks spelling s (behind_texts spelling (behind_texts spelling n x) y) w) (typing spelling s n x) (typing spelling s (behind_texts spelling n x) y) (typing spelling s (behind_texts spelling (behind_texts spelling n x) y) w) (λ t u v. conditional s.structs a (read t) (read u) (read v)) (told spelling s n x) (told spelling s (behind_texts spelling n x) y) (told spelling s (behind_texts spelling (behind_texts spelling n x) y) w)
 
-  pub told_each : (s : Scope) (n : ℕ) (es : ExprTrees) → Told (HasEach s n es) (BreaksEach s n es) (in_order (typing_each s n es))
-  told_each s n tree.NoExprs = refl
-  told_each s n (tree.ConsExpr e es) = cons (Has s n e) (Breaks s n e) (HasEach s (behind_texts n e) es) (BreaksEach s (behind_texts n e) es) (typing s n e) (in_order (typing_each s (behind_texts n e) es)) (told s n e) (told_each s (behind_texts n e) es)
+  pub told_each : (spelling : Spelling) → (s : Scope) (n : ℕ) (es : ExprTrees) → Told (HasEach spelling s n es) (BreaksEach spelling s n es) (in_order (typing_each spelling s n es))
+  told_each spelling s n tree.NoExprs = refl
+  told_each spelling s n (tree.ConsExpr e es) = cons (Has spelling s n e) (Breaks spelling s n e) (HasEach spelling s (behind_texts spelling n e) es) (BreaksEach spelling s (behind_texts spelling n e) es) (typing spelling s n e) (in_order (typing_each spelling s (behind_texts spelling n e) es)) (told spelling s n e) (told_each spelling s (behind_texts spelling n e) es)
 
-pub typing_has : (s : Scope) (n : ℕ) (e : ExprTree) (t : Typed) → typing s n e ≡ Ok t → Has s n e t
+pub typing_has : (spelling : Spelling) → (s : Scope) (n : ℕ) (e : ExprTree) (t : Typed) → typing spelling s n e ≡ Ok t → Has spelling s n e t
 unfolding Told
-typing_has s n e t h = rw h at (told s n e)
+typing_has spelling s n e t h = rw h at (told spelling s n e)
 
-pub typing_breaks : (s : Scope) (n : ℕ) (e : ExprTree) (rule : TypeRule) (at : ℕ) → typing s n e ≡ breaks_at rule at → Breaks s n e rule at
+pub typing_breaks : (spelling : Spelling) → (s : Scope) (n : ℕ) (e : ExprTree) (rule : TypeRule) (at : ℕ) → typing spelling s n e ≡ breaks_at rule at → Breaks spelling s n e rule at
 unfolding Told
-typing_breaks s n e rule at h = rw h at (told s n e)
+typing_breaks spelling s n e rule at h = rw h at (told spelling s n e)
 
 -- ---- what is so is what the function answers
 
-has_call : (s : Scope) (n : ℕ) (of : ExprTree) (es : ExprTrees) (a : ℕ) (t : Typed) (b : Bool)
-    → Case b ((bytes : List ℕ) × (only_text es ≡ Some bytes) × (discriminator_value bytes ≡ t)) ((f : Typed) × (us : List Typed) × Has s n of f × HasEach s (behind_texts n of) es us × (call s.structs a (is_name of) (read f) (map read us) ≡ Ok t))
-    → ((f : Typed) → Has s n of f → typing s n of ≡ Ok f) → ((us : List Typed) → HasEach s (behind_texts n of) es us → in_order (typing_each s (behind_texts n of) es) ≡ Ok us)
-    → call_by b s.structs a (is_name of) (only_text es) (typing s n of) (typing_each s (behind_texts n of) es) ≡ Ok t
-has_call s n of es a t true h k l = rw h.1 (ap Ok h.2)
-has_call s n of es a t false h k l = rw (k h.0 h.2, l h.1 h.3) h.4
+has_call : (spelling : Spelling) → (s : Scope) (n : ℕ) (of : ExprTree) (es : ExprTrees) (a : ℕ) (t : Typed) (b : Bool)
+    → Case b ((bytes : List ℕ) × (only_text es ≡ Some bytes) × (discriminator_value bytes ≡ t)) ((f : Typed) × (us : List Typed) × Has spelling s n of f × HasEach spelling s (behind_texts spelling n of) es us × (call s.structs a (is_name of) (read f) (map read us) ≡ Ok t))
+    → ((f : Typed) → Has spelling s n of f → typing spelling s n of ≡ Ok f) → ((us : List Typed) → HasEach spelling s (behind_texts spelling n of) es us → in_order (typing_each spelling s (behind_texts spelling n of) es) ≡ Ok us)
+    → call_by b s.structs a (is_name of) (only_text es) (typing spelling s n of) (typing_each spelling s (behind_texts spelling n of) es) ≡ Ok t
+has_call spelling s n of es a t true h k l = rw h.1 (ap Ok h.2)
+has_call spelling s n of es a t false h k l = rw (k h.0 h.2, l h.1 h.3) h.4
 
 mutual
   unfolding typing
 
-  pub has_typing : (s : Scope) (n : ℕ) (e : ExprTree) (t : Typed) → Has s n e t → typing s n e ≡ Ok t
-  has_typing s n (tree.Identifier name a z) t h = h
-  has_typing s n (tree.Integer v d u l a z) t h = h
-  has_typing s n (tree.Character value a z) t h = ap Ok h
-  has_typing s n (tree.Text bytes a z) t h = ap Ok h
-  has_typing s n (tree.Paren inner a z) t h = has_typing s n inner t h
-  has_typing s n (tree.Index of at a z) t h = rw (has_typing s n of h.0 h.2, has_typing s (behind_texts n of) at h.1 h.3) h.4
-  has_typing s n (tree.Call of es a z) t h = has_call s n of es a t (is_discriminator s of) h (λ f k. has_typing s n of f k) (λ us k. has_each s (behind_texts n of) es us k)
-  has_typing s n (tree.Dot of name a z) t h = rw (has_typing s n of h.0 h.1) h.2
-  has_typing s n (tree.Arrow of name a z) t h = rw (has_typing s n of h.0 h.1) h.2
-  has_typing s n (tree.Postfix op of a z) t h = rw (has_typing s n of h.0 h.1) h.2
-  has_typing s n (tree.Prefix op of a z) t h = rw (has_typing s n of h.0 h.1) h.2
-  has_typing s n (tree.SizeofExpr of a z) t h = rw (has_typing s n of h.0 h.1) h.2
-  has_typing s n (tree.SizeofType of a z) t h = rw h.1 h.2
-  has_typing s n (tree.Cast wanted of a z) t h = rw (h.1, has_typing s n of h.2.0 h.2.1) h.2.2
-  has_typing s n (tree.Binary op l r a z) t h = rw (has_typing s n l h.0 h.2, has_typing s (behind_texts n l) r h.1 h.3) h.4
-  has_typing s n (tree.Conditional x y w a z) t h = rw (has_typing s n x h.0 h.3, has_typing s (behind_texts n x) y h.1 h.4, has_typing s (behind_texts (behind_texts n x) y) w h.2 h.5) h.6
+  pub has_typing : (spelling : Spelling) → (s : Scope) (n : ℕ) (e : ExprTree) (t : Typed) → Has spelling s n e t → typing spelling s n e ≡ Ok t
+  has_typing spelling s n (tree.Identifier name a z) t h = h
+  has_typing spelling s n (tree.Integer v d u l a z) t h = h
+  has_typing spelling s n (tree.Character value a z) t h = ap Ok h
+  has_typing spelling s n (tree.Text bytes a z) t h = ap Ok h
+  has_typing spelling s n (tree.Paren inner a z) t h = has_typing spelling s n inner t h
+  has_typing spelling s n (tree.Index of at a z) t h = rw (has_typing spelling s n of h.0 h.2, has_typing spelling s (behind_texts spelling n of) at h.1 h.3) h.4
+  has_typing spelling s n (tree.Call of es a z) t h = has_call spelling s n of es a t (is_discriminator spelling s of) h (λ f k. has_typing spelling s n of f k) (λ us k. has_each spelling s (behind_texts spelling n of) es us k)
+  has_typing spelling s n (tree.Dot of name a z) t h = rw (has_typing spelling s n of h.0 h.1) h.2
+  has_typing spelling s n (tree.Arrow of name a z) t h = rw (has_typing spelling s n of h.0 h.1) h.2
+  has_typing spelling s n (tree.Postfix op of a z) t h = rw (has_typing spelling s n of h.0 h.1) h.2
+  has_typing spelling s n (tree.Prefix op of a z) t h = rw (has_typing spelling s n of h.0 h.1) h.2
+  has_typing spelling s n (tree.SizeofExpr of a z) t h = rw (has_typing spelling s n of h.0 h.1) h.2
+  has_typing spelling s n (tree.SizeofType of a z) t h = rw h.1 h.2
+  has_typing spelling s n (tree.Cast wanted of a z) t h = rw (h.1, has_typing spelling s n of h.2.0 h.2.1) h.2.2
+  has_typing spelling s n (tree.Binary op l r a z) t h = rw (has_typing spelling s n l h.0 h.2, has_typing spelling s (behind_texts spelling n l) r h.1 h.3) h.4
+  has_typing spelling s n (tree.Conditional x y w a z) t h = rw (has_typing spelling s n x h.0 h.3, has_typing spelling s (behind_texts spelling n x) y h.1 h.4, has_typing spelling s (behind_texts spelling (behind_texts spelling n x) y) w h.2 h.5) h.6
 
-  pub has_each : (s : Scope) (n : ℕ) (es : ExprTrees) (ts : List Typed) → HasEach s n es ts → in_order (typing_each s n es) ≡ Ok ts
-  has_each s n tree.NoExprs ts h = ap Ok h
-  has_each s n (tree.ConsExpr e es) ts h = rw (has_typing s n e h.0 h.2, has_each s (behind_texts n e) es h.1 h.3) (ap Ok h.4)
+  pub has_each : (spelling : Spelling) → (s : Scope) (n : ℕ) (es : ExprTrees) (ts : List Typed) → HasEach spelling s n es ts → in_order (typing_each spelling s n es) ≡ Ok ts
+  has_each spelling s n tree.NoExprs ts h = ap Ok h
+  has_each spelling s n (tree.ConsExpr e es) ts h = rw (has_typing spelling s n e h.0 h.2, has_each spelling s (behind_texts spelling n e) es h.1 h.3) (ap Ok h.4)
 
-breaks_call : (s : Scope) (n : ℕ) (of : ExprTree) (es : ExprTrees) (a : ℕ) (rule : TypeRule) (at : ℕ) (b : Bool)
-    → Case b ((only_text es ≡ None) × (BreaksEach s (behind_texts n of) es rule at ⊎ ((us : List Typed) × HasEach s (behind_texts n of) es us × (C24 ≡ rule) × (a ≡ at))))
-    (Breaks s n of rule at ⊎ (Then (Has s n of) (BreaksEach s (behind_texts n of) es rule at) ⊎ ((f : Typed) × (us : List Typed) × Has s n of f × HasEach s (behind_texts n of) es us × (call s.structs a (is_name of) (read f) (map read us) ≡ breaks_at rule at))))
-    → (Breaks s n of rule at → typing s n of ≡ breaks_at rule at) → (BreaksEach s (behind_texts n of) es rule at → in_order (typing_each s (behind_texts n of) es) ≡ breaks_at rule at)
-    → call_by b s.structs a (is_name of) (only_text es) (typing s n of) (typing_each s (behind_texts n of) es) ≡ breaks_at rule at
-breaks_call s n of es a rule at true h k l = text (only_text es) h.0 h.1
+breaks_call : (spelling : Spelling) → (s : Scope) (n : ℕ) (of : ExprTree) (es : ExprTrees) (a : ℕ) (rule : TypeRule) (at : ℕ) (b : Bool)
+    → Case b ((only_text es ≡ None) × (BreaksEach spelling s (behind_texts spelling n of) es rule at ⊎ ((us : List Typed) × HasEach spelling s (behind_texts spelling n of) es us × (C24 ≡ rule) × (a ≡ at))))
+    (Breaks spelling s n of rule at ⊎ (Then (Has spelling s n of) (BreaksEach spelling s (behind_texts spelling n of) es rule at) ⊎ ((f : Typed) × (us : List Typed) × Has spelling s n of f × HasEach spelling s (behind_texts spelling n of) es us × (call s.structs a (is_name of) (read f) (map read us) ≡ breaks_at rule at))))
+    → (Breaks spelling s n of rule at → typing spelling s n of ≡ breaks_at rule at) → (BreaksEach spelling s (behind_texts spelling n of) es rule at → in_order (typing_each spelling s (behind_texts spelling n of) es) ≡ breaks_at rule at)
+    → call_by b s.structs a (is_name of) (only_text es) (typing spelling s n of) (typing_each spelling s (behind_texts spelling n of) es) ≡ breaks_at rule at
+breaks_call spelling s n of es a rule at true h k l = text (only_text es) h.0 h.1
   where
-    text : (o : Option (List ℕ)) → o ≡ None → BreaksEach s (behind_texts n of) es rule at ⊎ ((us : List Typed) × HasEach s (behind_texts n of) es us × (C24 ≡ rule) × (a ≡ at))
-        → discriminator_call a o (typing_each s (behind_texts n of) es) ≡ breaks_at rule at
+    text : (o : Option (List ℕ)) → o ≡ None → BreaksEach spelling s (behind_texts spelling n of) es rule at ⊎ ((us : List Typed) × HasEach spelling s (behind_texts spelling n of) es us × (C24 ≡ rule) × (a ≡ at))
+        → discriminator_call a o (typing_each spelling s (behind_texts spelling n of) es) ≡ breaks_at rule at
     text o e (inl f) = rw (e, l f) refl
-    text o e (inr f) = rw (e, has_each s (behind_texts n of) es f.0 f.1, f.2, f.3) refl
-breaks_call s n of es a rule at false (inl h) k l = rw (k h) refl
-breaks_call s n of es a rule at false (inr (inl h)) k l = rw (has_typing s n of h.0 h.1, l h.2) refl
-breaks_call s n of es a rule at false (inr (inr h)) k l = rw (has_typing s n of h.0 h.2, has_each s (behind_texts n of) es h.1 h.3) h.4
+    text o e (inr f) = rw (e, has_each spelling s (behind_texts spelling n of) es f.0 f.1, f.2, f.3) refl
+breaks_call spelling s n of es a rule at false (inl h) k l = rw (k h) refl
+breaks_call spelling s n of es a rule at false (inr (inl h)) k l = rw (has_typing spelling s n of h.0 h.1, l h.2) refl
+breaks_call spelling s n of es a rule at false (inr (inr h)) k l = rw (has_typing spelling s n of h.0 h.2, has_each spelling s (behind_texts spelling n of) es h.1 h.3) h.4
 
-breaks_cast : (s : Scope) (n : ℕ) (of : ExprTree) (a : ℕ) (rule : TypeRule) (at : ℕ) (named : Answer TypeTree) (w : TypeTree) → named ≡ Ok w → Breaks s n of rule at ⊎ One (Has s n of) (λ x. cast s.structs a w (read x)) (breaks_at rule at)
-    → (Breaks s n of rule at → typing s n of ≡ breaks_at rule at) → then_with named (λ v. then_with (typing s n of) (λ x. cast s.structs a v (read x))) ≡ breaks_at rule at
-breaks_cast s n of a rule at named w e (inl h) k = rw (e, k h) refl
-breaks_cast s n of a rule at named w e (inr h) k = rw (e, has_typing s n of h.0 h.1) h.2
+breaks_cast : (spelling : Spelling) → (s : Scope) (n : ℕ) (of : ExprTree) (a : ℕ) (rule : TypeRule) (at : ℕ) (named : Answer TypeTree) (w : TypeTree) → named ≡ Ok w → Breaks spelling s n of rule at ⊎ One (Has spelling s n of) (λ x. cast s.structs a w (read x)) (breaks_at rule at)
+    → (Breaks spelling s n of rule at → typing spelling s n of ≡ breaks_at rule at) → then_with named (λ v. then_with (typing spelling s n of) (λ x. cast s.structs a v (read x))) ≡ breaks_at rule at
+breaks_cast spelling s n of a rule at named w e (inl h) k = rw (e, k h) refl
+breaks_cast spelling s n of a rule at named w e (inr h) k = rw (e, has_typing spelling s n of h.0 h.1) h.2
 
 mutual
   unfolding typing
 
-  pub breaks_typing : (s : Scope) (n : ℕ) (e : ExprTree) (rule : TypeRule) (at : ℕ) → Breaks s n e rule at → typing s n e ≡ breaks_at rule at
-  breaks_typing s n (tree.Identifier name a z) rule at h = h
-  breaks_typing s n (tree.Integer v d u l a z) rule at h = h
-  breaks_typing s n (tree.Character value a z) rule at h = absurd h
-  breaks_typing s n (tree.Text bytes a z) rule at h = absurd h
-  breaks_typing s n (tree.Paren inner a z) rule at h = breaks_typing s n inner rule at h
-  breaks_typing s n (tree.Index of index a z) rule at (inl h) = rw (breaks_typing s n of rule at h) refl
-  breaks_typing s n (tree.Index of index a z) rule at (inr (inl h)) = rw (has_typing s n of h.0 h.1, breaks_typing s (behind_texts n of) index rule at h.2) refl
-  breaks_typing s n (tree.Index of index a z) rule at (inr (inr h)) = rw (has_typing s n of h.0 h.2, has_typing s (behind_texts n of) index h.1 h.3) h.4
-  breaks_typing s n (tree.Call of es a z) rule at h = breaks_call s n of es a rule at (is_discriminator s of) h (breaks_typing s n of rule at) (breaks_each s (behind_texts n of) es rule at)
-  breaks_typing s n (tree.Dot of name a z) rule at (inl h) = rw (breaks_typing s n of rule at h) refl
-  breaks_typing s n (tree.Dot of name a z) rule at (inr h) = rw (has_typing s n of h.0 h.1) h.2
-  breaks_typing s n (tree.Arrow of name a z) rule at (inl h) = rw (breaks_typing s n of rule at h) refl
-  breaks_typing s n (tree.Arrow of name a z) rule at (inr h) = rw (has_typing s n of h.0 h.1) h.2
-  breaks_typing s n (tree.Postfix op of a z) rule at (inl h) = rw (breaks_typing s n of rule at h) refl
-  breaks_typing s n (tree.Postfix op of a z) rule at (inr h) = rw (has_typing s n of h.0 h.1) h.2
-  breaks_typing s n (tree.Prefix op of a z) rule at (inl h) = rw (breaks_typing s n of rule at h) refl
-  breaks_typing s n (tree.Prefix op of a z) rule at (inr h) = rw (has_typing s n of h.0 h.1) h.2
-  breaks_typing s n (tree.SizeofExpr of a z) rule at (inl h) = rw (breaks_typing s n of rule at h) refl
-  breaks_typing s n (tree.SizeofExpr of a z) rule at (inr h) = rw (has_typing s n of h.0 h.1) h.2
-  breaks_typing s n (tree.SizeofType of a z) rule at (inl h) = rw h refl
-  breaks_typing s n (tree.SizeofType of a z) rule at (inr h) = rw h.1 h.2
-  breaks_typing s n (tree.Cast wanted of a z) rule at (inl h) = rw h refl
-  breaks_typing s n (tree.Cast wanted of a z) rule at (inr h) = breaks_cast s n of a rule at (type_name CastTarget s wanted) h.0 h.1 h.2 (breaks_typing s n of rule at)
-  breaks_typing s n (tree.Binary op l r a z) rule at (inl h) = rw (breaks_typing s n l rule at h) refl
-  breaks_typing s n (tree.Binary op l r a z) rule at (inr (inl h)) = rw (has_typing s n l h.0 h.1, breaks_typing s (behind_texts n l) r rule at h.2) refl
-  breaks_typing s n (tree.Binary op l r a z) rule at (inr (inr h)) = rw (has_typing s n l h.0 h.2, has_typing s (behind_texts n l) r h.1 h.3) h.4
-  breaks_typing s n (tree.Conditional x y w a z) rule at (inl h) = rw (breaks_typing s n x rule at h) refl
-  breaks_typing s n (tree.Conditional x y w a z) rule at (inr (inl h)) = rw (has_typing s n x h.0 h.1, breaks_typing s (behind_texts n x) y rule at h.2) refl
-  breaks_typing s n (tree.Conditional x y w a z) rule at (inr (inr (inl h))) = rw (has_typing s n x h.0 h.1, has_typing s (behind_texts n x) y h.2.0 h.2.1, breaks_typing s (behind_texts (behind_texts n x) y) w rule at h.2.2) refl
-  breaks_typing s n (tree.Conditional x y w a z) rule at (inr (inr (inr h))) = rw (has_typing s n x h.0 h.3, has_typing s (behind_texts n x) y h.1 h.4, has_typing s (behind_texts (behind_texts n x) y) w h.2 h.5) h.6
+  pub breaks_typing : (spelling : Spelling) → (s : Scope) (n : ℕ) (e : ExprTree) (rule : TypeRule) (at : ℕ) → Breaks spelling s n e rule at → typing spelling s n e ≡ breaks_at rule at
+  breaks_typing spelling s n (tree.Identifier name a z) rule at h = h
+  breaks_typing spelling s n (tree.Integer v d u l a z) rule at h = h
+  breaks_typing spelling s n (tree.Character value a z) rule at h = absurd h
+  breaks_typing spelling s n (tree.Text bytes a z) rule at h = absurd h
+  breaks_typing spelling s n (tree.Paren inner a z) rule at h = breaks_typing spelling s n inner rule at h
+  breaks_typing spelling s n (tree.Index of index a z) rule at (inl h) = rw (breaks_typing spelling s n of rule at h) refl
+  breaks_typing spelling s n (tree.Index of index a z) rule at (inr (inl h)) = rw (has_typing spelling s n of h.0 h.1, breaks_typing spelling s (behind_texts spelling n of) index rule at h.2) refl
+  breaks_typing spelling s n (tree.Index of index a z) rule at (inr (inr h)) = rw (has_typing spelling s n of h.0 h.2, has_typing spelling s (behind_texts spelling n of) index h.1 h.3) h.4
+  breaks_typing spelling s n (tree.Call of es a z) rule at h = breaks_call spelling s n of es a rule at (is_discriminator spelling s of) h (breaks_typing spelling s n of rule at) (breaks_each spelling s (behind_texts spelling n of) es rule at)
+  breaks_typing spelling s n (tree.Dot of name a z) rule at (inl h) = rw (breaks_typing spelling s n of rule at h) refl
+  breaks_typing spelling s n (tree.Dot of name a z) rule at (inr h) = rw (has_typing spelling s n of h.0 h.1) h.2
+  breaks_typing spelling s n (tree.Arrow of name a z) rule at (inl h) = rw (breaks_typing spelling s n of rule at h) refl
+  breaks_typing spelling s n (tree.Arrow of name a z) rule at (inr h) = rw (has_typing spelling s n of h.0 h.1) h.2
+  breaks_typing spelling s n (tree.Postfix op of a z) rule at (inl h) = rw (breaks_typing spelling s n of rule at h) refl
+  breaks_typing spelling s n (tree.Postfix op of a z) rule at (inr h) = rw (has_typing spelling s n of h.0 h.1) h.2
+  breaks_typing spelling s n (tree.Prefix op of a z) rule at (inl h) = rw (breaks_typing spelling s n of rule at h) refl
+  breaks_typing spelling s n (tree.Prefix op of a z) rule at (inr h) = rw (has_typing spelling s n of h.0 h.1) h.2
+  breaks_typing spelling s n (tree.SizeofExpr of a z) rule at (inl h) = rw (breaks_typing spelling s n of rule at h) refl
+  breaks_typing spelling s n (tree.SizeofExpr of a z) rule at (inr h) = rw (has_typing spelling s n of h.0 h.1) h.2
+  breaks_typing spelling s n (tree.SizeofType of a z) rule at (inl h) = rw h refl
+  breaks_typing spelling s n (tree.SizeofType of a z) rule at (inr h) = rw h.1 h.2
+  breaks_typing spelling s n (tree.Cast wanted of a z) rule at (inl h) = rw h refl
+  breaks_typing spelling s n (tree.Cast wanted of a z) rule at (inr h) = breaks_cast spelling s n of a rule at (type_name spelling CastTarget s wanted) h.0 h.1 h.2 (breaks_typing spelling s n of rule at)
+  breaks_typing spelling s n (tree.Binary op l r a z) rule at (inl h) = rw (breaks_typing spelling s n l rule at h) refl
+  breaks_typing spelling s n (tree.Binary op l r a z) rule at (inr (inl h)) = rw (has_typing spelling s n l h.0 h.1, breaks_typing spelling s (behind_texts spelling n l) r rule at h.2) refl
+  breaks_typing spelling s n (tree.Binary op l r a z) rule at (inr (inr h)) = rw (has_typing spelling s n l h.0 h.2, has_typing spelling s (behind_texts spelling n l) r h.1 h.3) h.4
+  breaks_typing spelling s n (tree.Conditional x y w a z) rule at (inl h) = rw (breaks_typing spelling s n x rule at h) refl
+  breaks_typing spelling s n (tree.Conditional x y w a z) rule at (inr (inl h)) = rw (has_typing spelling s n x h.0 h.1, breaks_typing spelling s (behind_texts spelling n x) y rule at h.2) refl
+  breaks_typing spelling s n (tree.Conditional x y w a z) rule at (inr (inr (inl h))) = rw (has_typing spelling s n x h.0 h.1, has_typing spelling s (behind_texts spelling n x) y h.2.0 h.2.1, breaks_typing spelling s (behind_texts spelling (behind_texts spelling n x) y) w rule at h.2.2) refl
+  breaks_typing spelling s n (tree.Conditional x y w a z) rule at (inr (inr (inr h))) = rw (has_typing spelling s n x h.0 h.3, has_typing spelling s (behind_texts spelling n x) y h.1 h.4, has_typing spelling s (behind_texts spelling (behind_texts spelling n x) y) w h.2 h.5) h.6
 
-  pub breaks_each : (s : Scope) (n : ℕ) (es : ExprTrees) (rule : TypeRule) (at : ℕ) → BreaksEach s n es rule at → in_order (typing_each s n es) ≡ breaks_at rule at
-  breaks_each s n tree.NoExprs rule at h = absurd h
-  breaks_each s n (tree.ConsExpr e es) rule at (inl h) = rw (breaks_typing s n e rule at h) refl
-  breaks_each s n (tree.ConsExpr e es) rule at (inr h) = rw (has_typing s n e h.0 h.1, breaks_each s (behind_texts n e) es rule at h.2) refl
+  pub breaks_each : (spelling : Spelling) → (s : Scope) (n : ℕ) (es : ExprTrees) (rule : TypeRule) (at : ℕ) → BreaksEach spelling s n es rule at → in_order (typing_each spelling s n es) ≡ breaks_at rule at
+  breaks_each spelling s n tree.NoExprs rule at h = absurd h
+  breaks_each spelling s n (tree.ConsExpr e es) rule at (inl h) = rw (breaks_typing spelling s n e rule at h) refl
+  breaks_each spelling s n (tree.ConsExpr e es) rule at (inr h) = rw (has_typing spelling s n e h.0 h.1, breaks_each spelling s (behind_texts spelling n e) es rule at h.2) refl
 
 -- ---- exactly one of the two, with one form, or one rule and place
 
@@ -251,16 +251,16 @@ err_one b c e = ap (λ x. broken_or x b) e
     broken_or (Ok x) other = other
     broken_or (Err e) other = e
 
-pub one_form : (s : Scope) (n : ℕ) (e : ExprTree) (t u : Typed) → Has s n e t → Has s n e u → t ≡ u
-one_form s n e t u h k = ok_one t u (sym (has_typing s n e t h) ∙ has_typing s n e u k)
+pub one_form : (spelling : Spelling) → (s : Scope) (n : ℕ) (e : ExprTree) (t u : Typed) → Has spelling s n e t → Has spelling s n e u → t ≡ u
+one_form spelling s n e t u h k = ok_one t u (sym (has_typing spelling s n e t h) ∙ has_typing spelling s n e u k)
 
-pub one_flaw : (s : Scope) (n : ℕ) (e : ExprTree) (q r : TypeRule) (at other : ℕ) → Breaks s n e q at → Breaks s n e r other → (q ≡ r) × (at ≡ other)
-one_flaw s n e q r at other h k =
-    let same : record { rule = q; place = at } ≡ record { rule = r; place = other } = err_one (record { rule = q; place = at }) (record { rule = r; place = other }) (sym (breaks_typing s n e q at h) ∙ breaks_typing s n e r other k) in
+pub one_flaw : (spelling : Spelling) → (s : Scope) (n : ℕ) (e : ExprTree) (q r : TypeRule) (at other : ℕ) → Breaks spelling s n e q at → Breaks spelling s n e r other → (q ≡ r) × (at ≡ other)
+one_flaw spelling s n e q r at other h k =
+    let same : record { rule = q; place = at } ≡ record { rule = r; place = other } = err_one (record { rule = q; place = at }) (record { rule = r; place = other }) (sym (breaks_typing spelling s n e q at h) ∙ breaks_typing spelling s n e r other k) in
     (ap (λ (b : Broken). b.rule) same, ap (λ (b : Broken). b.place) same)
 
-pub not_both : (s : Scope) (n : ℕ) (e : ExprTree) (t : Typed) (rule : TypeRule) (at : ℕ) → Has s n e t → Breaks s n e rule at → ⊥
-not_both s n e t rule at h k = differ (sym (has_typing s n e t h) ∙ breaks_typing s n e rule at k)
+pub not_both : (spelling : Spelling) → (s : Scope) (n : ℕ) (e : ExprTree) (t : Typed) (rule : TypeRule) (at : ℕ) → Has spelling s n e t → Breaks spelling s n e rule at → ⊥
+not_both spelling s n e t rule at h k = differ (sym (has_typing spelling s n e t h) ∙ breaks_typing spelling s n e rule at k)
   where
     differ : ◌≡◌ {A = Answer Typed} (Ok t) (breaks_at rule at) → ⊥
     differ e = cc

@@ -3,3 +3,4 @@ pub mod Exact
 mod RowsPlaces
 mod RowsValues
 pub mod Sample
+pub mod Spelled

@@ -7,6 +7,7 @@ use Rattle.pa_tree.specs.declared.operator.IntegerWord.{IntegerWord}
 use Rattle.pa_tree.specs.declared.operator.IntegerWord.TheVariants as word
 use Rattle.pa_tree.specs.Exprs.{BaseTree, DeclaratorTree}
 use Rattle.pa_tree.specs.Exprs as tree
+use Rattle.pa_tree.specs.Files.{declared_name}
 use Rattle.pa_ctype.specs.Types.{TypeTree, Of, Boolean, Pointer, Array, Struct, Function, TypeTrees, Nil, Cons}
 use Rattle.pa_ctype.specs.Layouts.{Table}
 use Rattle.pa_rexpr.specs.declared.rule.TypeRule.{TypeRule}
@@ -14,7 +15,7 @@ use Rattle.pa_rexpr.specs.declared.rule.TypeRule.TheVariants.{C1, C2, C11, C14, 
 use Rattle.pa_rexpr.specs.Answers.{Answer, breaks_at, then_with, checked}
 use Rattle.pa_rexpr.specs.Conversions.{integer, int, void, is_function, is_array, is_struct, is_function_pointer, is_complete, is_bounded, with_const, without_const, schema_of, adjusted}
 use Rattle.pa_rexpr.specs.Names.{is_reserved}
-use Rattle.pa_rexpr.specs.Scope.{Scope, Meaning, Local, TypeName, meaning, in_block, with_name, tagged, struct_tag, has_enum_tag}
+use Rattle.pa_rexpr.specs.Scope.{Spelling, Scope, Meaning, Local, TypeName, meaning, in_block, with_name, tagged, struct_tag, has_enum_tag}
 
 -- ---- what a type is for, and what a declarator stands on
 
@@ -70,6 +71,14 @@ is_name_alone (tree.Named name a z) = true
 is_name_alone (tree.Absent a z) = true
 is_name_alone (tree.Grouped inner a z) = is_name_alone inner
 is_name_alone _ = false
+
+abbrev pub spelled : Spelling → Option ℕ → List ℕ
+spelled spelling None = []
+spelled spelling (Some name) = spelling name
+
+-- the name that a declarator declares, or nothing
+abbrev pub name_of : Spelling → DeclaratorTree → List ℕ
+name_of spelling declarator = spelled spelling (declared_name declarator)
 
 -- where the name stands, or would
 abbrev pub name_place : DeclaratorTree → ℕ
@@ -182,9 +191,9 @@ abbrev pub typedef_type : Scope → List ℕ → TypeTree
 typedef_type s name = typedef_by (meaning s name)
 
 -- the type that a qualifier in front of the base stands on: that of a typedef, or one that is no pointer
-abbrev pub front_type : Scope → BaseTree → TypeTree
-front_type s (tree.TypedefName name a z) = typedef_type s name
-front_type s _ = void
+abbrev pub front_type : Spelling → Scope → BaseTree → TypeTree
+front_type spelling s (tree.TypedefName name a z) = typedef_type s (spelling name)
+front_type spelling s _ = void
 
 abbrev pub bearer_of : Bool → TypeTree → Bearer
 bearer_of forbidden of = record { signable = is_function_pointer of; forbidden = forbidden }
@@ -209,18 +218,18 @@ struct_named false tag place s = known_struct place s (struct_tag s tag)
 -- the type of a base without a body; `grows`: it may bring in the tag of a struct. A name of a type is an ordinary
 -- name (6.2.3), so it may not begin with `ptrauth_`.
 -- Bodies stand at file level alone, and what they would be here is never asked.
-abbrev pub base_type : Bool → Scope → BaseTree → Answer Based
-base_type grows s (tree.Void a z) = Ok (based void s)
-base_type grows s (tree.Boolean a z) = Ok (based (Of false Boolean) s)
-base_type grows s (tree.Words words a z) = Ok (based (words_type words) s)
-base_type grows s (tree.TypedefName name a z) = if is_reserved name then breaks_at C24 a else Ok (based (typedef_type s name) s)
-base_type grows s (tree.StructTag tag a z) = struct_named grows tag.name a s
-base_type grows s (tree.EnumTag tag a z) = if has_enum_tag s tag.name then Ok (based int s) else breaks_at C1 a
-base_type grows s (tree.StructBody tag ms a z) = breaks_at C1 a
-base_type grows s (tree.EnumBody tag es a z) = breaks_at C1 a
+abbrev pub base_type : Spelling → Bool → Scope → BaseTree → Answer Based
+base_type spelling grows s (tree.Void a z) = Ok (based void s)
+base_type spelling grows s (tree.Boolean a z) = Ok (based (Of false Boolean) s)
+base_type spelling grows s (tree.Words words a z) = Ok (based (words_type words) s)
+base_type spelling grows s (tree.TypedefName name a z) = if is_reserved (spelling name) then breaks_at C24 a else Ok (based (typedef_type s (spelling name)) s)
+base_type spelling grows s (tree.StructTag tag a z) = struct_named grows (spelling tag.name) a s
+base_type spelling grows s (tree.EnumTag tag a z) = if has_enum_tag s (spelling tag.name) then Ok (based int s) else breaks_at C1 a
+base_type spelling grows s (tree.StructBody tag ms a z) = breaks_at C1 a
+base_type spelling grows s (tree.EnumBody tag es a z) = breaks_at C1 a
 
-abbrev pub front_qualifiers : Scope → BaseTree → Qualifiers
-front_qualifiers s base = record { constant = false; schema = schema_of (front_type s base) }
+abbrev pub front_qualifiers : Spelling → Scope → BaseTree → Qualifiers
+front_qualifiers spelling s base = record { constant = false; schema = schema_of (front_type spelling s base) }
 
 -- a base with the qualifiers in front of it and behind it
 abbrev pub qualified_base : Answer Qualifiers → Answer Based → (Qualifiers → Based → Answer Qualifiers) → Answer Based

@@ -10,7 +10,7 @@ use Rattle.pa_typed.specs.Typed as to
 use Rattle.pa_rexpr.specs.declared.rule.TypeRule.TheVariants.{C1, C14, C24}
 use Rattle.pa_rexpr.specs.Answers.{Answer, breaks_at}
 use Rattle.pa_rexpr.specs.Conversions.{char, int, unsigned_int, long, unsigned_long, pointer_to, is_function}
-use Rattle.pa_rexpr.specs.Scope.{Scope, Meaning, Local, Global, Constant, meaning}
+use Rattle.pa_rexpr.specs.Scope.{Spelling, Scope, Meaning, Local, Global, Constant, meaning}
 use Rattle.pa_rexpr.specs.Values.{Typed, Value, lvalue, value, designator}
 
 -- ---- names (6.5.1p2)
@@ -83,10 +83,10 @@ string number bytes = lvalue (to.StringPlace number (Of false (Array char (Some 
 
 -- ---- the discriminator of a string
 
-abbrev pub is_discriminator_name : ExprTree → Bool
-is_discriminator_name (tree.Identifier name a z) = bytes_eq name (codes "ptrauth_string_discriminator")
-is_discriminator_name (tree.Paren inner a z) = is_discriminator_name inner
-is_discriminator_name _ = false
+abbrev pub is_discriminator_name : Spelling → ExprTree → Bool
+is_discriminator_name spelling (tree.Identifier name a z) = bytes_eq (spelling name) (codes "ptrauth_string_discriminator")
+is_discriminator_name spelling (tree.Paren inner a z) = is_discriminator_name spelling inner
+is_discriminator_name spelling _ = false
 
 -- the bytes of a string literal, in parentheses or not
 abbrev pub text_of : ExprTree → Option (List ℕ)
@@ -109,23 +109,23 @@ is_name _ = false
 -- The string literals of an expression that lie in memory by themselves, in order: not those of an operand of `sizeof`, and not that
 -- of a discriminator.
 unfoldable mutual
-  pub texts : ExprTree → List (List ℕ)
-  texts (tree.Text bytes a z) = bytes ∷ []
-  texts (tree.Paren inner a z) = texts inner
-  texts (tree.Index of at a z) = texts of ++ texts at
-  texts (tree.Call of arguments a z) = if is_discriminator_name of then [] else texts of ++ texts_of_all arguments
-  texts (tree.Dot of member a z) = texts of
-  texts (tree.Arrow of member a z) = texts of
-  texts (tree.Postfix op of a z) = texts of
-  texts (tree.Prefix op of a z) = texts of
-  texts (tree.Cast wanted of a z) = texts of
-  texts (tree.Binary op left right a z) = texts left ++ texts right
-  texts (tree.Conditional test when_true when_false a z) = texts test ++ (texts when_true ++ texts when_false)
-  texts _ = []
+  pub texts : Spelling → ExprTree → List (List ℕ)
+  texts spelling (tree.Text bytes a z) = bytes ∷ []
+  texts spelling (tree.Paren inner a z) = texts spelling inner
+  texts spelling (tree.Index of at a z) = texts spelling of ++ texts spelling at
+  texts spelling (tree.Call of arguments a z) = if is_discriminator_name spelling of then [] else texts spelling of ++ texts_of_all spelling arguments
+  texts spelling (tree.Dot of member a z) = texts spelling of
+  texts spelling (tree.Arrow of member a z) = texts spelling of
+  texts spelling (tree.Postfix op of a z) = texts spelling of
+  texts spelling (tree.Prefix op of a z) = texts spelling of
+  texts spelling (tree.Cast wanted of a z) = texts spelling of
+  texts spelling (tree.Binary op left right a z) = texts spelling left ++ texts spelling right
+  texts spelling (tree.Conditional test when_true when_false a z) = texts spelling test ++ (texts spelling when_true ++ texts spelling when_false)
+  texts spelling _ = []
 
-  pub texts_of_all : ExprTrees → List (List ℕ)
-  texts_of_all tree.NoExprs = []
-  texts_of_all (tree.ConsExpr e es) = texts e ++ texts_of_all es
+  pub texts_of_all : Spelling → ExprTrees → List (List ℕ)
+  texts_of_all spelling tree.NoExprs = []
+  texts_of_all spelling (tree.ConsExpr e es) = texts spelling e ++ texts_of_all spelling es
 
 -- where the first byte of an expression stands
 abbrev pub from_of : ExprTree → ℕ

@@ -8,6 +8,10 @@ use Rattle.pa_ctype.specs.Layouts.{Body, Table, body_of}
 use Rattle.pa_rexpr.specs.declared.rule.TypeRule.TheVariants.{C2, C26}
 use Rattle.pa_rexpr.specs.Answers.{Answer, breaks_at}
 
+-- how the names of the file that trees hold as numbers are spelled
+abbrev pub Spelling : Type 0
+Spelling = ℕ → List ℕ
+
 -- What an ordinary name means. A local goes by its number in its function. A function is a global of a function type. A constant is
 -- an enumerator, or brought in by an include line. `Discriminator` is `ptrauth_string_discriminator` of `<ptrauth.h>`.
 pub data Meaning : Type 0 where

@@ -1,6 +1,6 @@
 -- Initializers (C11 6.7.9): which parts of an object get which values. Each aggregate inside another has braces of its own, but for a
 -- string that an array of characters gets.
-use Rattle.std.specs.Prelude.{ℕ, zero, suc, ◌+◌, ◌*◌, ◌==◌, nat_lt, nat_le, ℤ, pos, Bool, true, false, not, ◌&&◌, ◌||◌, if◌then◌else◌, List, [], ◌∷◌, ◌++◌, length, slice_get, Option, Some, None, option_map, Result, Ok, Err}
+use Rattle.std.specs.Prelude.{ℕ, zero, suc, ◌+◌, ◌*◌, ◌==◌, nat_lt, nat_le, pos, Bool, true, false, ◌||◌, if◌then◌else◌, List, [], ◌∷◌, ◌++◌, length, Option, Some, None, Result, Ok, Err}
 use Rattle.std.specs.Int.{next_multiple_of}
 use Rattle.pa_num.specs.Arithmetic.{unsigned64}
 use Rattle.pa_tree.specs.Exprs.{ExprTree}
@@ -9,7 +9,7 @@ use Rattle.pa_tree.specs.Stmts.{InitializerTree, InitializerTrees}
 use Rattle.pa_tree.specs.Stmts as init
 use Rattle.pa_ctype.specs.declared.ctype.Layout.{Layout}
 use Rattle.pa_ctype.specs.Types.{TypeTree, Of, Integer, Array, Struct}
-use Rattle.pa_ctype.specs.Layouts.{Field, Body, Table, body_of, layout_in, placed, empty}
+use Rattle.pa_ctype.specs.Layouts.{Body, Table, body_of, layout_in, placed, empty}
 use Rattle.pa_typed.specs.Typed.{TypedExpr, TypedInitial, TypedGiven, GivenValue, GivenText}
 use Rattle.pa_typed.specs.Typed as to
 use Rattle.pa_rexpr.specs.declared.rule.TypeRule.{TypeRule}
@@ -17,7 +17,7 @@ use Rattle.pa_rexpr.specs.declared.rule.TypeRule.TheVariants.{C10, C13, C23, C25
 use Rattle.pa_rexpr.specs.Answers.{Answer, breaks_at, then_with, at_place}
 use Rattle.pa_rexpr.specs.Constants.{Flaw, flaw_rule, initial_flaw, in_type}
 use Rattle.pa_rexpr.specs.Conversions.{is_scalar, value_type}
-use Rattle.pa_rexpr.specs.Scope.{Scope, with_length}
+use Rattle.pa_rexpr.specs.Scope.{Spelling, Scope, with_length}
 use Rattle.pa_rexpr.specs.Values.{Typed, read, given}
 use Rattle.pa_rexpr.specs.Names.{text_of, texts, from_of}
 use Rattle.pa_rexpr.specs.Typing.{typing}
@@ -35,8 +35,8 @@ nothing = record { parts = []; texts = []; count = 0; excess = false }
 
 -- ---- scalars
 
-abbrev pub one_part : ℕ → TypeTree → ExprTree → TypedExpr → Filled
-one_part at of e value = record { parts = record { at = at; of = of; given = GivenValue value } ∷ []; texts = texts e; count = 1; excess = false }
+abbrev pub one_part : Spelling → ℕ → TypeTree → ExprTree → TypedExpr → Filled
+one_part spelling at of e value = record { parts = record { at = at; of = of; given = GivenValue value } ∷ []; texts = texts spelling e; count = 1; excess = false }
 
 abbrev pub without_flaw : Option Flaw → TypedExpr → Result TypedExpr TypeRule
 without_flaw None value = Ok value
@@ -155,13 +155,13 @@ slot table of at index = scalar_slot of at index
 -- ---- initializers without an object: items that are left over, and what a typedef or a function has
 
 abbrev mutual
-  pub expressions_in : Scope → InitializerTree → Answer ℕ
-  expressions_in s (init.Value e a z) = then_with (typing s 0 e) (λ x. Ok 0)
-  expressions_in s (init.Braced items a z) = expressions_in_all s items
+  pub expressions_in : Spelling → Scope → InitializerTree → Answer ℕ
+  expressions_in spelling s (init.Value e a z) = then_with (typing spelling s 0 e) (λ x. Ok 0)
+  expressions_in spelling s (init.Braced items a z) = expressions_in_all spelling s items
 
-  pub expressions_in_all : Scope → InitializerTrees → Answer ℕ
-  expressions_in_all s init.NoInitializers = Ok 0
-  expressions_in_all s (init.ConsInitializer first rest) = then_with (expressions_in s first) (λ n. expressions_in_all s rest)
+  pub expressions_in_all : Spelling → Scope → InitializerTrees → Answer ℕ
+  expressions_in_all spelling s init.NoInitializers = Ok 0
+  expressions_in_all spelling s (init.ConsInitializer first rest) = then_with (expressions_in spelling s first) (λ n. expressions_in_all spelling s rest)
 
 -- ---- lists
 
@@ -176,9 +176,9 @@ abbrev pub list_at : ℕ → Filled → Answer Filled
 list_at place filled = if filled.excess then breaks_at C25 place else Ok filled
 
 -- a value without braces: of a scalar, or of the object itself
-abbrev pub value_given : Bool → Bool → Scope → ℕ → TypeTree → ℕ → ExprTree → Typed → Answer Filled
-value_given static outermost s place of at e x =
-    if outermost || is_scalar of then then_with (at_place place (constant_if static of (given s.structs of (read x)))) (λ value. Ok (one_part at of e value))
+abbrev pub value_given : Spelling → Bool → Bool → Scope → ℕ → TypeTree → ℕ → ExprTree → Typed → Answer Filled
+value_given spelling static outermost s place of at e x =
+    if outermost || is_scalar of then then_with (at_place place (constant_if static of (given s.structs of (read x)))) (λ value. Ok (one_part spelling at of e value))
     else breaks_at C10 place
 
 -- the item for a part, or one that is left over, and then the others
@@ -188,13 +188,13 @@ next_filled (Some slot) item expressions others = then_with (item slot) (λ firs
 
 -- `static`: the object is one of the file; `outermost`: it is the object itself, and no part of it; `n`: how many string literals
 -- that lie in memory stand in front
-module _ (static : Bool) (s : Scope) where
+module _ (spelling : Spelling) (static : Bool) (s : Scope) where
   unfoldable mutual
     pub filled : Bool → TypeTree → ℕ → ℕ → InitializerTree → Answer Filled
-    filled outermost of at n (init.Value e a z) = string_or static of at n (string_for of e) (then_with (typing s n e) (value_given static outermost s a of at e))
+    filled outermost of at n (init.Value e a z) = string_or static of at n (string_for of e) (then_with (typing spelling s n e) (value_given spelling static outermost s a of at e))
     filled outermost of at n (init.Braced items a z) = string_or static of at n (only_string of items) (then_with (list_filled of at n 0 items) (list_at a))
 
     pub list_filled : TypeTree → ℕ → ℕ → ℕ → InitializerTrees → Answer Filled
     list_filled of at n index init.NoInitializers = Ok nothing
     list_filled of at n index (init.ConsInitializer first rest) =
-        next_filled (slot s.structs of at index) (λ part. filled false part.of part.at n first) (expressions_in s first) (λ more. list_filled of at (n + more) (suc index) rest)
+        next_filled (slot s.structs of at index) (λ part. filled false part.of part.at n first) (expressions_in spelling s first) (λ more. list_filled of at (n + more) (suc index) rest)

@@ -1,8 +1,7 @@
 -- Statements and the declarations in blocks (C11 6.7, 6.8).
-use Rattle.std.specs.Prelude.{ℕ, zero, suc, ◌+◌, ℤ, pos, Bool, true, false, not, ◌&&◌, ◌||◌, if◌then◌else◌, List, [], ◌∷◌, ◌++◌, length, is_some, Option, Some, None, option_map, Result, Ok, Err}
+use Rattle.std.specs.Prelude.{ℕ, ℤ, Bool, true, false, not, ◌&&◌, ◌||◌, if◌then◌else◌, List, [], ◌∷◌, ◌++◌, length, is_some, Option, Some, None, Ok, Err}
 use Rattle.pa_num.specs.Arithmetic.{unsigned64}
-use Rattle.pa_tree.specs.Exprs.{ExprTree, SpecsTree, DeclaratorTree}
-use Rattle.pa_tree.specs.Files.{declared_name}
+use Rattle.pa_tree.specs.Exprs.{ExprTree, DeclaratorTree}
 use Rattle.pa_tree.specs.Stmts.{InitializerTree, InitDeclaratorTree, BlockDeclarationTree, ForStartTree, StmtTree, BlockItemTree, BlockItemTrees}
 use Rattle.pa_tree.specs.Stmts as src
 use Rattle.pa_ctype.specs.declared.ctype.Layout.{Layout}
@@ -11,14 +10,14 @@ use Rattle.pa_ctype.specs.Layouts.{Table, layout_in}
 use Rattle.pa_typed.specs.Typed.{TypedExpr, TypedInitial, TypedLocalInit, TypedForStart, TypedStmt, TypedStmts}
 use Rattle.pa_typed.specs.Typed as to
 use Rattle.pa_rexpr.specs.declared.rule.TypeRule.{TypeRule}
-use Rattle.pa_rexpr.specs.declared.rule.TypeRule.TheVariants.{C2, C5, C6, C11, C20, C21, C27}
+use Rattle.pa_rexpr.specs.declared.rule.TypeRule.TheVariants.{C5, C6, C11, C20, C21, C27}
 use Rattle.pa_rexpr.specs.Answers.{Answer, breaks_at, then_with, at_place, checked}
 use Rattle.pa_rexpr.specs.Constants.{constant_at, in_type, equal_integers}
-use Rattle.pa_rexpr.specs.Conversions.{int, long, is_integer, is_scalar, is_void, is_function, is_array, is_complete, is_bounded, promoted}
-use Rattle.pa_rexpr.specs.Scope.{Scope, Local, declared, entered, left, completed, with_length}
+use Rattle.pa_rexpr.specs.Conversions.{long, is_integer, is_scalar, is_void, is_complete, is_bounded, promoted}
+use Rattle.pa_rexpr.specs.Scope.{Spelling, Scope, Local, declared, entered, left, completed, with_length}
 use Rattle.pa_rexpr.specs.Values.{Typed, read, converted, given}
 use Rattle.pa_rexpr.specs.Names.{texts, from_of}
-use Rattle.pa_rexpr.specs.Declarators.{Name, Base, Based, built, Part, Walked, name_place, declarator_from, forbids_schema}
+use Rattle.pa_rexpr.specs.Declarators.{Name, Base, built, name_of, name_place, declarator_from, forbids_schema}
 use Rattle.pa_rexpr.specs.Typing.{typing, specs, parts_of}
 use Rattle.pa_runit.specs.Initializers.{Filled, filled}
 use Rattle.pa_typed.specs.Units.{LocalTree}
@@ -99,12 +98,12 @@ abbrev pub in_block_scope : (Scope → Scope) → Here → Here
 in_block_scope change here = record here { scope = change here.scope }
 
 -- an expression, with its string literals behind those before it
-abbrev pub expression : Here → ExprTree → Answer (Step Typed)
-expression here e = then_with (typing here.scope (length here.texts) e) (λ x. Ok (step (read x) (record here { texts = here.texts ++ texts e })))
+abbrev pub expression : Spelling → Here → ExprTree → Answer (Step Typed)
+expression spelling here e = then_with (typing spelling here.scope (length here.texts) e) (λ x. Ok (step (read x) (record here { texts = here.texts ++ texts spelling e })))
 
-abbrev pub maybe_expression : Here → Option ExprTree → Answer (Step (Option Typed))
-maybe_expression here None = Ok (step None here)
-maybe_expression here (Some e) = and_then (expression here e) (λ x after. Ok (step (Some x) after))
+abbrev pub maybe_expression : Spelling → Here → Option ExprTree → Answer (Step (Option Typed))
+maybe_expression spelling here None = Ok (step None here)
+maybe_expression spelling here (Some e) = and_then (expression spelling here e) (λ x after. Ok (step (Some x) after))
 
 -- a condition (6.8.4.1, 6.8.5): told at the statement
 abbrev pub condition : {A : Type 0} → ℕ → Typed → A → Answer A
@@ -148,42 +147,42 @@ abbrev pub local_init : ℕ → Option (List TypedInitial) → TypedLocalInit
 local_init number initials = record { local = number; initials = initials }
 
 -- the object behind its initializer, which may have completed its type
-abbrev pub local_filled : DeclaratorTree → TypeTree → Here → Filled → Answer (Step TypedLocalInit)
-local_filled d of here f =
+abbrev pub local_filled : Spelling → DeclaratorTree → TypeTree → Here → Filled → Answer (Step TypedLocalInit)
+local_filled spelling d of here f =
     let whole : TypeTree = with_length f.count of in
     if is_object_type here.scope.structs false whole
-    then Ok (step (local_init (length here.locals) (Some f.parts)) (with_local whole (record here { scope = completed (declared_name d) f.count here.scope; texts = here.texts ++ f.texts })))
+    then Ok (step (local_init (length here.locals) (Some f.parts)) (with_local whole (record here { scope = completed (name_of spelling d) f.count here.scope; texts = here.texts ++ f.texts })))
     else breaks_at C11 (declarator_from d)
 
-abbrev pub local_given : DeclaratorTree → TypeTree → Here → Option InitializerTree → Answer (Step TypedLocalInit)
-local_given d of here None = Ok (step (local_init (length here.locals) None) (with_local of here))
-local_given d of here (Some i) = then_with (filled false here.scope true of 0 (length here.texts) i) (local_filled d of here)
+abbrev pub local_given : Spelling → DeclaratorTree → TypeTree → Here → Option InitializerTree → Answer (Step TypedLocalInit)
+local_given spelling d of here None = Ok (step (local_init (length here.locals) None) (with_local of here))
+local_given spelling d of here (Some i) = then_with (filled spelling false here.scope true of 0 (length here.texts) i) (local_filled spelling d of here)
 
 -- a name of a block is new there (6.7p3) and has an object type; it is in scope from the end of its declarator (6.2.1p7)
-abbrev pub local_declared : DeclaratorTree → Option InitializerTree → TypeTree → Here → Answer (Step TypedLocalInit)
-local_declared d i of here =
-    then_with (declared (declared_name d) (name_place d) (Local (length here.locals) of) here.scope) (λ scope. if is_object_type scope.structs (is_some i) of then local_given d of (record here { scope = scope }) i else breaks_at C11 (declarator_from d))
+abbrev pub local_declared : Spelling → DeclaratorTree → Option InitializerTree → TypeTree → Here → Answer (Step TypedLocalInit)
+local_declared spelling d i of here =
+    then_with (declared (name_of spelling d) (name_place d) (Local (length here.locals) of) here.scope) (λ scope. if is_object_type scope.structs (is_some i) of then local_given spelling d of (record here { scope = scope }) i else breaks_at C11 (declarator_from d))
 
-abbrev pub init_declarator : TypeTree → Here → InitDeclaratorTree → Answer (Step TypedLocalInit)
-init_declarator of here (src.OfInitDeclarator d i a z) =
-    then_with (parts_of true Name (Base of) here.scope d) (λ w. local_declared d i (built of w.parts) (record here { scope = w.scope }))
+abbrev pub init_declarator : Spelling → TypeTree → Here → InitDeclaratorTree → Answer (Step TypedLocalInit)
+init_declarator spelling of here (src.OfInitDeclarator d i a z) =
+    then_with (parts_of spelling true Name (Base of) here.scope d) (λ w. local_declared spelling d i (built of w.parts) (record here { scope = w.scope }))
 
-abbrev pub init_declarators : TypeTree → Here → List InitDeclaratorTree → Answer (Step (List TypedLocalInit))
-init_declarators of here [] = Ok (step [] here)
-init_declarators of here (d ∷ ds) = and_then (init_declarator of here d) (λ name after. and_then (init_declarators of after ds) (λ names end. Ok (step (name ∷ names) end)))
+abbrev pub init_declarators : Spelling → TypeTree → Here → List InitDeclaratorTree → Answer (Step (List TypedLocalInit))
+init_declarators spelling of here [] = Ok (step [] here)
+init_declarators spelling of here (d ∷ ds) = and_then (init_declarator spelling of here d) (λ name after. and_then (init_declarators spelling of after ds) (λ names end. Ok (step (name ∷ names) end)))
 
 -- one of the declarators makes the type that of a result
 abbrev pub any_forbids : List InitDeclaratorTree → Bool
 any_forbids [] = false
 any_forbids (src.OfInitDeclarator d i a z ∷ ds) = forbids_schema Name d || any_forbids ds
 
-abbrev pub block_declaration : Here → BlockDeclarationTree → Answer (Step (List TypedLocalInit))
-block_declaration here (src.OfBlockDeclaration sp ds a z) =
-    then_with (specs true (any_forbids ds) here.scope sp) (λ b. init_declarators b.of (record here { scope = b.scope }) ds)
+abbrev pub block_declaration : Spelling → Here → BlockDeclarationTree → Answer (Step (List TypedLocalInit))
+block_declaration spelling here (src.OfBlockDeclaration sp ds a z) =
+    then_with (specs spelling true (any_forbids ds) here.scope sp) (λ b. init_declarators spelling b.of (record here { scope = b.scope }) ds)
 
-abbrev pub for_start : Here → ForStartTree → Answer (Step TypedForStart)
-for_start here (src.Declares declaration a z) = and_then (block_declaration here declaration) (λ names after. Ok (step (to.Declares names) after))
-for_start here (src.Evaluates value a z) = and_then (maybe_expression here value) (λ x after. Ok (step (to.Evaluates (tree_of x)) after))
+abbrev pub for_start : Spelling → Here → ForStartTree → Answer (Step TypedForStart)
+for_start spelling here (src.Declares declaration a z) = and_then (block_declaration spelling here declaration) (λ names after. Ok (step (to.Declares names) after))
+for_start spelling here (src.Evaluates value a z) = and_then (maybe_expression spelling here value) (λ x after. Ok (step (to.Evaluates (tree_of x)) after))
 
 -- ---- `switch` (6.8.4.2)
 
@@ -218,8 +217,8 @@ abbrev pub default_made : ℕ → Surroundings → Labels → TypedStmt → Answ
 default_made place f labels body = checked place (label_rule f labels.has_default) (to.Default body)
 
 -- the number of a label, converted to the type of the `switch`
-abbrev pub case_number : Here → ExprTree → Answer ℤ
-case_number here e = then_with (then_with (typing here.scope (length here.texts) e) (λ x. constant_at (from_of e) (read x))) (λ z. Ok (in_type here.labels.of z))
+abbrev pub case_number : Spelling → Here → ExprTree → Answer ℤ
+case_number spelling here e = then_with (then_with (typing spelling here.scope (length here.texts) e) (λ x. constant_at (from_of e) (read x))) (λ z. Ok (in_type here.labels.of z))
 
 -- ---- `return` (6.8.6.4)
 
@@ -249,33 +248,33 @@ abbrev pub jump : ℕ → Bool → TypedStmt → Here → Answer (Step TypedStmt
 jump place allowed made here = if allowed then Ok (step made here) else breaks_at C20 place
 
 unfoldable mutual
-  pub statement : Surroundings → Here → StmtTree → Answer (Step TypedStmt)
-  statement f here (src.Compound items a z) =
-      and_then (block_items (in_compound f) (in_block_scope entered here) items) (λ made after. Ok (step (to.Compound made) (in_block_scope left after)))
-  statement f here (src.Expression value a z) = and_then (maybe_expression here value) (λ x after. Ok (step (to.Expression (tree_of x)) after))
-  statement f here (src.If test body a z) =
-      and_then (expression here test) (λ x h. and_then (statement (plain f) h body) (λ b end. condition a x (step (to.If x.tree b) end)))
-  statement f here (src.IfElse test when_true when_false a z) =
-      and_then (expression here test) (λ x h. and_then (statement (plain f) h when_true) (λ b g. and_then (statement (plain f) g when_false) (λ c end. condition a x (step (to.IfElse x.tree b c) end))))
-  statement f here (src.While test body a z) =
-      and_then (expression here test) (λ x h. and_then (statement (in_loop f) h body) (λ b end. condition a x (step (to.While x.tree b) end)))
-  statement f here (src.DoWhile body test a z) =
-      and_then (statement (in_loop f) here body) (λ b h. and_then (expression h test) (λ x end. condition a x (step (to.DoWhile b x.tree) end)))
-  statement f here (src.For start test next body a z) =
-      and_then (for_start (in_block_scope entered here) start) (λ begins h. and_then (maybe_expression h test) (λ x g. and_then (maybe_expression g next) (λ y k. and_then (statement (in_loop f) k body) (λ b end. maybe_condition a x (step (to.For begins (tree_of x) (tree_of y) b) (in_block_scope left end))))))
-  statement f here (src.Switch value body a z) =
-      and_then (expression here value) (λ x h. and_then (statement (in_switch f) (record h { labels = no_labels (label_type x) }) body) (λ b end. made_with (record end { labels = h.labels }) (switch_made a x b)))
-  statement f here (src.Case value body a z) =
-      then_with (case_number here value) (λ n. and_then (statement (behind_label f) (with_case n here) body) (λ b end. made_with end (case_made a f here.labels n b)))
-  statement f here (src.Default body a z) = and_then (statement (behind_label f) (with_default here) body) (λ b end. made_with end (default_made a f here.labels b))
-  statement f here (src.Break a z) = jump a f.breaks to.Break here
-  statement f here (src.Continue a z) = jump a f.loops to.Continue here
-  statement f here (src.Return value a z) = and_then (maybe_expression here value) (λ x after. made_with after (returned a f.result after.scope.structs x))
+  pub statement : Spelling → Surroundings → Here → StmtTree → Answer (Step TypedStmt)
+  statement spelling f here (src.Compound items a z) =
+      and_then (block_items spelling (in_compound f) (in_block_scope entered here) items) (λ made after. Ok (step (to.Compound made) (in_block_scope left after)))
+  statement spelling f here (src.Expression value a z) = and_then (maybe_expression spelling here value) (λ x after. Ok (step (to.Expression (tree_of x)) after))
+  statement spelling f here (src.If test body a z) =
+      and_then (expression spelling here test) (λ x h. and_then (statement spelling (plain f) h body) (λ b end. condition a x (step (to.If x.tree b) end)))
+  statement spelling f here (src.IfElse test when_true when_false a z) =
+      and_then (expression spelling here test) (λ x h. and_then (statement spelling (plain f) h when_true) (λ b g. and_then (statement spelling (plain f) g when_false) (λ c end. condition a x (step (to.IfElse x.tree b c) end))))
+  statement spelling f here (src.While test body a z) =
+      and_then (expression spelling here test) (λ x h. and_then (statement spelling (in_loop f) h body) (λ b end. condition a x (step (to.While x.tree b) end)))
+  statement spelling f here (src.DoWhile body test a z) =
+      and_then (statement spelling (in_loop f) here body) (λ b h. and_then (expression spelling h test) (λ x end. condition a x (step (to.DoWhile b x.tree) end)))
+  statement spelling f here (src.For start test next body a z) =
+      and_then (for_start spelling (in_block_scope entered here) start) (λ begins h. and_then (maybe_expression spelling h test) (λ x g. and_then (maybe_expression spelling g next) (λ y k. and_then (statement spelling (in_loop f) k body) (λ b end. maybe_condition a x (step (to.For begins (tree_of x) (tree_of y) b) (in_block_scope left end))))))
+  statement spelling f here (src.Switch value body a z) =
+      and_then (expression spelling here value) (λ x h. and_then (statement spelling (in_switch f) (record h { labels = no_labels (label_type x) }) body) (λ b end. made_with (record end { labels = h.labels }) (switch_made a x b)))
+  statement spelling f here (src.Case value body a z) =
+      then_with (case_number spelling here value) (λ n. and_then (statement spelling (behind_label f) (with_case n here) body) (λ b end. made_with end (case_made a f here.labels n b)))
+  statement spelling f here (src.Default body a z) = and_then (statement spelling (behind_label f) (with_default here) body) (λ b end. made_with end (default_made a f here.labels b))
+  statement spelling f here (src.Break a z) = jump a f.breaks to.Break here
+  statement spelling f here (src.Continue a z) = jump a f.loops to.Continue here
+  statement spelling f here (src.Return value a z) = and_then (maybe_expression spelling here value) (λ x after. made_with after (returned a f.result after.scope.structs x))
 
-  pub block_item : Surroundings → Here → BlockItemTree → Answer (Step TypedStmts)
-  block_item f here (src.DeclarationItem declaration a z) = and_then (block_declaration here declaration) (λ names after. Ok (step (joined_inits names to.NoTStmts) after))
-  block_item f here (src.StatementItem stmt a z) = and_then (statement f here stmt) (λ made after. Ok (step (to.ConsTStmt made to.NoTStmts) after))
+  pub block_item : Spelling → Surroundings → Here → BlockItemTree → Answer (Step TypedStmts)
+  block_item spelling f here (src.DeclarationItem declaration a z) = and_then (block_declaration spelling here declaration) (λ names after. Ok (step (joined_inits names to.NoTStmts) after))
+  block_item spelling f here (src.StatementItem stmt a z) = and_then (statement spelling f here stmt) (λ made after. Ok (step (to.ConsTStmt made to.NoTStmts) after))
 
-  pub block_items : Surroundings → Here → BlockItemTrees → Answer (Step TypedStmts)
-  block_items f here src.NoBlockItems = Ok (step to.NoTStmts here)
-  block_items f here (src.ConsBlockItem first rest) = and_then (block_item f here first) (λ made after. and_then (block_items f after rest) (λ more end. Ok (step (joined made more) end)))
+  pub block_items : Spelling → Surroundings → Here → BlockItemTrees → Answer (Step TypedStmts)
+  block_items spelling f here src.NoBlockItems = Ok (step to.NoTStmts here)
+  block_items spelling f here (src.ConsBlockItem first rest) = and_then (block_item spelling f here first) (λ made after. and_then (block_items spelling f after rest) (λ more end. Ok (step (joined made more) end)))

@@ -5,8 +5,7 @@ use Rattle.pa_lex.specs.declared.token.Include.{Include}
 use Rattle.pa_lex.specs.declared.token.Include.TheVariants as include
 use Rattle.pa_tree.specs.declared.file.Storage.{Storage}
 use Rattle.pa_tree.specs.declared.file.Storage.TheVariants as storage
-use Rattle.pa_tree.specs.Exprs.{SpecsTree, DeclaratorTree}
-use Rattle.pa_tree.specs.Files.{declared_name}
+use Rattle.pa_tree.specs.Exprs.{DeclaratorTree}
 use Rattle.pa_tree.specs.Counts.{file_nodes}
 use Rattle.pa_tree.specs.Stmts.{InitializerTree, InitDeclaratorTree, StmtTree, FileItemTree, FileTree, DeclarationTree, FunctionDefinitionTree}
 use Rattle.pa_tree.specs.Stmts as src
@@ -14,18 +13,17 @@ use Rattle.pa_ctype.specs.Types.{TypeTree, Of, Function}
 use Rattle.pa_ctype.specs.Layouts.{Table}
 use Rattle.pa_typed.specs.Typed.{TypedInitial, TypedGiven, GivenValue, GivenText, TypedStmts}
 use Rattle.pa_typed.specs.Typed as to
-use Rattle.pa_rexpr.specs.declared.rule.TypeRule.{TypeRule}
 use Rattle.pa_rexpr.specs.declared.rule.TypeRule.TheVariants.{C2, C10, C11}
-use Rattle.pa_rexpr.specs.Answers.{Answer, Broken, breaks_at, then_with}
+use Rattle.pa_rexpr.specs.Answers.{Answer, breaks_at, then_with}
 use Rattle.pa_rexpr.specs.Conversions.{void, is_function, is_bounded}
-use Rattle.pa_rexpr.specs.Scope.{Scope, Meaning, Local, Global, TypeName, no_names, declared, is_twice, with_name, with_length, completed, entered, left}
-use Rattle.pa_rexpr.specs.Declarators.{Name, Base, Part, PointerPart, ArrayPart, FunctionPart, Param, Walked, built, is_named, name_place, declarator_from, forbids_schema}
+use Rattle.pa_rexpr.specs.Scope.{Spelling, Scope, Local, Global, TypeName, no_names, declared, is_twice, with_name, with_length, completed, entered, left}
+use Rattle.pa_rexpr.specs.Declarators.{Name, Base, Part, FunctionPart, Param, Walked, built, is_named, name_of, name_place, declarator_from, forbids_schema}
 use Rattle.pa_rexpr.specs.Typing.{parts_of}
 use Rattle.pa_runit.specs.Bodies.{file_specs}
 use Rattle.pa_runit.specs.Headers.{header_names, brought_in, has_header, putchar_type, getchar_type}
 use Rattle.pa_runit.specs.Initializers.{Filled, filled, expressions_in}
 use Rattle.pa_typed.specs.Units.{LocalTree, FunctionTree, CellTree, GlobalTree, DeclaredTree, UnitTree}
-use Rattle.pa_runit.specs.Statements.{local_of, Labels, no_labels, Here, Surroundings, NoLabels, Step, any_forbids, is_object_type, block_items}
+use Rattle.pa_runit.specs.Statements.{local_of, no_labels, Here, Surroundings, NoLabels, Step, any_forbids, is_object_type, block_items}
 
 -- an object that is defined so far, by its first declaration without `extern` or by the one with an initializer
 pub record ObjectRead : Type 0 where
@@ -122,63 +120,63 @@ cells_of [] = []
 cells_of (i ∷ is) = cells_with i.at i.of i.given (cells_of is)
 
 -- the object behind its initializer, which may have completed its type
-abbrev pub object_filled : DeclaratorTree → TypeTree → Reading → Filled → Answer Reading
-object_filled d of r f =
+abbrev pub object_filled : Spelling → DeclaratorTree → TypeTree → Reading → Filled → Answer Reading
+object_filled spelling d of r f =
     let whole : TypeTree = with_length f.count of in
-    let name : List ℕ = declared_name d in
+    let name : List ℕ = name_of spelling d in
     let place : ℕ = name_place d in
     if is_object_type r.scope.structs false whole
     then Ok (noted name place whole (defined_object name place whole (cells_of f.parts) (record r { scope = completed name f.count r.scope; texts = r.texts ++ f.texts })))
     else breaks_at C11 (declarator_from d)
 
-abbrev pub object_given : Option Storage → DeclaratorTree → TypeTree → Reading → Option InitializerTree → Answer Reading
-object_given word d of r None = Ok (noted (declared_name d) (name_place d) of (tentative word (declared_name d) (name_place d) of r))
-object_given word d of r (Some i) = then_with (filled true r.scope true of 0 (length r.texts) i) (object_filled d of r)
+abbrev pub object_given : Spelling → Option Storage → DeclaratorTree → TypeTree → Reading → Option InitializerTree → Answer Reading
+object_given spelling word d of r None = Ok (noted (name_of spelling d) (name_place d) of (tentative word (name_of spelling d) (name_place d) of r))
+object_given spelling word d of r (Some i) = then_with (filled spelling true r.scope true of 0 (length r.texts) i) (object_filled spelling d of r)
 
 -- The name is new or has that type, and has no second initializer. Its type is one of an object.
-abbrev pub object_declared : Option Storage → DeclaratorTree → Option InitializerTree → TypeTree → Reading → Answer Reading
-object_declared word d i of r =
-    if is_twice (declared_name d) (Global of) r.scope || (is_some i && is_initialized r.objects (declared_name d)) then breaks_at C2 (name_place d)
+abbrev pub object_declared : Spelling → Option Storage → DeclaratorTree → Option InitializerTree → TypeTree → Reading → Answer Reading
+object_declared spelling word d i of r =
+    if is_twice (name_of spelling d) (Global of) r.scope || (is_some i && is_initialized r.objects (name_of spelling d)) then breaks_at C2 (name_place d)
     else if not (is_object_type r.scope.structs (is_some i) of) then breaks_at C11 (declarator_from d)
-    else then_with (declared (declared_name d) (name_place d) (Global of) r.scope) (λ s. object_given word d of (static_noted word (declared_name d) (with_scope s r)) i)
+    else then_with (declared (name_of spelling d) (name_place d) (Global of) r.scope) (λ s. object_given spelling word d of (static_noted word (name_of spelling d) (with_scope s r)) i)
 
 -- ---- typedefs and functions, which have no initializer (6.7.9p2, p3)
 
-abbrev pub not_initialized : DeclaratorTree → Option InitializerTree → Reading → Answer Reading
-not_initialized d None r = Ok r
-not_initialized d (Some i) r = then_with (expressions_in r.scope i) (λ _. breaks_at C10 (declarator_from d))
+abbrev pub not_initialized : Spelling → DeclaratorTree → Option InitializerTree → Reading → Answer Reading
+not_initialized spelling d None r = Ok r
+not_initialized spelling d (Some i) r = then_with (expressions_in spelling r.scope i) (λ _. breaks_at C10 (declarator_from d))
 
-abbrev pub typedef_declared : DeclaratorTree → Option InitializerTree → TypeTree → Reading → Answer Reading
-typedef_declared d i of r =
-    if is_twice (declared_name d) (TypeName of) r.scope then breaks_at C2 (name_place d)
+abbrev pub typedef_declared : Spelling → DeclaratorTree → Option InitializerTree → TypeTree → Reading → Answer Reading
+typedef_declared spelling d i of r =
+    if is_twice (name_of spelling d) (TypeName of) r.scope then breaks_at C2 (name_place d)
     else if not (is_bounded r.scope.structs of) then breaks_at C11 (declarator_from d)
-    else not_initialized d i (with_scope (with_name (declared_name d) (TypeName of) r.scope) r)
+    else not_initialized spelling d i (with_scope (with_name (name_of spelling d) (TypeName of) r.scope) r)
 
-abbrev pub function_declared : Option Storage → DeclaratorTree → Option InitializerTree → TypeTree → Reading → Answer Reading
-function_declared word d i of r =
-    if is_twice (declared_name d) (Global of) r.scope then breaks_at C2 (name_place d)
+abbrev pub function_declared : Spelling → Option Storage → DeclaratorTree → Option InitializerTree → TypeTree → Reading → Answer Reading
+function_declared spelling word d i of r =
+    if is_twice (name_of spelling d) (Global of) r.scope then breaks_at C2 (name_place d)
     else if not (is_bounded r.scope.structs of) then breaks_at C11 (declarator_from d)
-    else then_with (declared (declared_name d) (name_place d) (Global of) r.scope) (λ s. not_initialized d i (static_noted word (declared_name d) (noted (declared_name d) (name_place d) of (with_scope s r))))
+    else then_with (declared (name_of spelling d) (name_place d) (Global of) r.scope) (λ s. not_initialized spelling d i (static_noted word (name_of spelling d) (noted (name_of spelling d) (name_place d) of (with_scope s r))))
 
 -- ---- declarations (6.7)
 
-abbrev pub declared_as : Option Storage → DeclaratorTree → Option InitializerTree → TypeTree → Reading → Answer Reading
-declared_as word d i of r =
-    if is_typedef word then typedef_declared d i of r
-    else if is_function of then function_declared word d i of r
-    else object_declared word d i of r
+abbrev pub declared_as : Spelling → Option Storage → DeclaratorTree → Option InitializerTree → TypeTree → Reading → Answer Reading
+declared_as spelling word d i of r =
+    if is_typedef word then typedef_declared spelling d i of r
+    else if is_function of then function_declared spelling word d i of r
+    else object_declared spelling word d i of r
 
-abbrev pub init_declarator : Option Storage → TypeTree → Reading → InitDeclaratorTree → Answer Reading
-init_declarator word of r (src.OfInitDeclarator d i a z) =
-    then_with (parts_of true Name (Base of) r.scope d) (λ w. declared_as word d i (built of w.parts) (with_scope w.scope r))
+abbrev pub init_declarator : Spelling → Option Storage → TypeTree → Reading → InitDeclaratorTree → Answer Reading
+init_declarator spelling word of r (src.OfInitDeclarator d i a z) =
+    then_with (parts_of spelling true Name (Base of) r.scope d) (λ w. declared_as spelling word d i (built of w.parts) (with_scope w.scope r))
 
-abbrev pub init_declarators : Option Storage → TypeTree → Reading → List InitDeclaratorTree → Answer Reading
-init_declarators word of r [] = Ok r
-init_declarators word of r (d ∷ ds) = then_with (init_declarator word of r d) (λ next. init_declarators word of next ds)
+abbrev pub init_declarators : Spelling → Option Storage → TypeTree → Reading → List InitDeclaratorTree → Answer Reading
+init_declarators spelling word of r [] = Ok r
+init_declarators spelling word of r (d ∷ ds) = then_with (init_declarator spelling word of r d) (λ next. init_declarators spelling word of next ds)
 
-abbrev pub declaration : Reading → DeclarationTree → Answer Reading
-declaration r (src.OfDeclaration word sp ds a z) =
-    then_with (file_specs (any_forbids ds) r.scope sp) (λ b. init_declarators word b.of (with_scope b.scope r) ds)
+abbrev pub declaration : Spelling → Reading → DeclarationTree → Answer Reading
+declaration spelling r (src.OfDeclaration word sp ds a z) =
+    then_with (file_specs spelling (any_forbids ds) r.scope sp) (λ b. init_declarators spelling word b.of (with_scope b.scope r) ds)
 
 -- ---- functions (6.9.1)
 
@@ -217,9 +215,9 @@ abbrev pub around_body : TypeTree → Surroundings
 around_body of = record { result = result_of of; loops = false; breaks = false; labels = NoLabels }
 
 -- the body's statements stand in the block of the parameters (6.2.1p4)
-abbrev pub body_items : TypeTree → Here → StmtTree → Answer (Step TypedStmts)
-body_items of here (src.Compound items a z) = block_items (around_body of) here items
-body_items of here body = Ok (record { made = to.NoTStmts; here = here })
+abbrev pub body_items : Spelling → TypeTree → Here → StmtTree → Answer (Step TypedStmts)
+body_items spelling of here (src.Compound items a z) = block_items spelling (around_body of) here items
+body_items spelling of here body = Ok (record { made = to.NoTStmts; here = here })
 
 abbrev pub function_made : List ℕ → ℕ → TypeTree → List Param → Reading → Step TypedStmts → Answer Reading
 function_made name place of params r made =
@@ -229,35 +227,35 @@ function_made name place of params r made =
       functions = r.functions ++ (record { name = name; place = place; public = true; of = of; parameters = length params; locals = made.here.locals; body = to.Compound made.made } ∷ []);
     })
 
-abbrev pub function_body : DeclaratorTree → TypeTree → List Param → StmtTree → Reading → Answer Reading
-function_body d of params body r = then_with (body_items of (at_body params r) body) (function_made (declared_name d) (name_place d) of params r)
+abbrev pub function_body : Spelling → DeclaratorTree → TypeTree → List Param → StmtTree → Reading → Answer Reading
+function_body spelling d of params body r = then_with (body_items spelling of (at_body params r) body) (function_made (name_of spelling d) (name_place d) of params r)
 
-abbrev pub function_named : Option Storage → DeclaratorTree → TypeTree → StmtTree → Reading → Option (List Param) → Answer Reading
-function_named word d of body r None = breaks_at C11 (declarator_from d)
-function_named word d of body r (Some params) =
+abbrev pub function_named : Spelling → Option Storage → DeclaratorTree → TypeTree → StmtTree → Reading → Option (List Param) → Answer Reading
+function_named spelling word d of body r None = breaks_at C11 (declarator_from d)
+function_named spelling word d of body r (Some params) =
     if not (is_bounded r.scope.structs of) then breaks_at C11 (declarator_from d)
-    else then_with (declared (declared_name d) (name_place d) (Global of) r.scope) (λ s. function_body d of params body (static_noted word (declared_name d) (noted (declared_name d) (name_place d) of (with_scope s r))))
+    else then_with (declared (name_of spelling d) (name_place d) (Global of) r.scope) (λ s. function_body spelling d of params body (static_noted word (name_of spelling d) (noted (name_of spelling d) (name_place d) of (with_scope s r))))
 
 -- the name is new or has that type, and has no second body; the declarator gives it parameters
-abbrev pub function_defined : Option Storage → DeclaratorTree → StmtTree → TypeTree → Reading → Walked → Answer Reading
-function_defined word d body base r w =
-    if is_twice (declared_name d) (Global (built base w.parts)) w.scope || has_function r.functions (declared_name d) then breaks_at C2 (name_place d)
-    else function_named word d (built base w.parts) body (with_scope w.scope r) (own_params w.parts)
+abbrev pub function_defined : Spelling → Option Storage → DeclaratorTree → StmtTree → TypeTree → Reading → Walked → Answer Reading
+function_defined spelling word d body base r w =
+    if is_twice (name_of spelling d) (Global (built base w.parts)) w.scope || has_function r.functions (name_of spelling d) then breaks_at C2 (name_place d)
+    else function_named spelling word d (built base w.parts) body (with_scope w.scope r) (own_params w.parts)
 
-abbrev pub definition : Reading → FunctionDefinitionTree → Answer Reading
-definition r (src.OfFunctionDefinition word sp d body a z) =
-    then_with (file_specs (forbids_schema Name d) r.scope sp) (λ b. then_with (parts_of true Name (Base b.of) b.scope d) (function_defined word d body b.of (with_scope b.scope r)))
+abbrev pub definition : Spelling → Reading → FunctionDefinitionTree → Answer Reading
+definition spelling r (src.OfFunctionDefinition word sp d body a z) =
+    then_with (file_specs spelling (forbids_schema Name d) r.scope sp) (λ b. then_with (parts_of spelling true Name (Base b.of) b.scope d) (function_defined spelling word d body b.of (with_scope b.scope r)))
 
 -- ---- files (6.9)
 
-abbrev pub file_item : Reading → FileItemTree → Answer Reading
-file_item r (src.Included line a z) = included line a r
-file_item r (src.Declared d a z) = declaration r d
-file_item r (src.Defined d a z) = definition r d
+abbrev pub file_item : Spelling → Reading → FileItemTree → Answer Reading
+file_item spelling r (src.Included line a z) = included line a r
+file_item spelling r (src.Declared d a z) = declaration spelling r d
+file_item spelling r (src.Defined d a z) = definition spelling r d
 
-abbrev pub file_items : Reading → FileTree → Answer Reading
-file_items r [] = Ok r
-file_items r (item ∷ items) = then_with (file_item r item) (λ next. file_items next items)
+abbrev pub file_items : Spelling → Reading → FileTree → Answer Reading
+file_items spelling r [] = Ok r
+file_items spelling r (item ∷ items) = then_with (file_item spelling r item) (λ next. file_items spelling next items)
 
 -- a name that any declaration makes static is so in the whole file
 abbrev pub is_public : List (List ℕ) → List ℕ → Bool
@@ -286,5 +284,5 @@ unit_of file r =
     }
 
 -- the unit of a file, or the first rule that it breaks with its place
-abbrev pub typed : FileTree → Answer UnitTree
-typed file = then_with (file_items nothing_read file) (λ r. Ok (unit_of file r))
+abbrev pub typed : Spelling → FileTree → Answer UnitTree
+typed spelling file = then_with (file_items spelling nothing_read file) (λ r. Ok (unit_of file r))
