@@ -1,9 +1,10 @@
 -- Types of values (C11 6.2.5), the promotions and usual conversions (6.3.1), and which types go together. All arithmetic types are
 -- integer types here; enumerated types are `int`.
-use Rattle.std.specs.Prelude.{ℕ, suc, max, Bool, true, false, not, ◌&&◌, ◌||◌, ◌==◌, nat_lt, if◌then◌else◌, Option, Some, None, is_some}
+use Rattle.std.specs.Prelude.{ℕ, Bool, true, false, not, ◌&&◌, ◌||◌, ◌==◌, nat_lt, if◌then◌else◌, Option, Some, None, is_some}
 use Rattle.pa_pac.specs.declared.schema.Schema.{Schema}
-use Rattle.pa_ctype.specs.Types.{TypeTree, Of, FormTree, Void, Boolean, Integer, Pointer, Array, Struct, Function, TypeTrees, Nil, Cons}
-use Rattle.pa_ctype.specs.Equality.{same_form, same_type}
+use Rattle.pa_ctype.specs.Types.{TypeTree, Of, FormTree, Void, Boolean, Integer, Pointer, Array, Struct, Function, TypeTrees, Nil, Cons, type_depth}
+use Rattle.pa_ctype.specs.Equality.{same_form}
+use Rattle.pa_ctype.specs.Qualifiers.{is_constant, with_const}
 use Rattle.pa_ctype.specs.Layouts.{Table, layout_in}
 
 abbrev pub integer : ℕ → Bool → TypeTree
@@ -64,9 +65,6 @@ is_function _ = false
 abbrev pub is_scalar : TypeTree → Bool
 is_scalar t = is_integer t || is_pointer t
 
-abbrev pub is_constant : TypeTree → Bool
-is_constant (Of c form) = c
-
 -- what a pointer points to
 abbrev pub target : TypeTree → Option TypeTree
 target (Of c (Pointer to schema)) = Some to
@@ -98,34 +96,6 @@ schema_of _ = None
 abbrev pub value_type : TypeTree → TypeTree
 value_type (Of c (Pointer to schema)) = Of false (Pointer to None)
 value_type (Of c form) = Of false form
-
--- with `const`, or without: that of an array is that of its elements (6.7.3p9), and a function type has none
-unfoldable pub with_const : Bool → TypeTree → TypeTree
-with_const constant (Of c (Array of count)) = Of c (Array (with_const constant of) count)
-with_const constant (Of c (Function params result)) = Of c (Function params result)
-with_const constant (Of c form) = Of (c || constant) form
-
--- without qualifiers at every level
-unfoldable mutual
-  pub bare : TypeTree → TypeTree
-  bare (Of c form) = Of false (bare_form form)
-
-  pub bare_form : FormTree → FormTree
-  bare_form Void = Void
-  bare_form Boolean = Boolean
-  bare_form (Integer bits signed) = Integer bits signed
-  bare_form (Pointer to schema) = Pointer (bare to) None
-  bare_form (Array of count) = Array (bare of) count
-  bare_form (Struct id) = Struct id
-  bare_form (Function params result) = Function (bare_types params) (bare result)
-
-  pub bare_types : TypeTrees → TypeTrees
-  bare_types Nil = Nil
-  bare_types (Cons first rest) = Cons (bare first) (bare_types rest)
-
--- types that differ in qualifiers alone: there is nothing to convert
-abbrev pub same_bare : TypeTree → TypeTree → Bool
-same_bare a b = same_type (bare a) (bare b)
 
 -- ---- arithmetic types (6.3.1)
 
@@ -187,28 +157,6 @@ abbrev pub adjusted : TypeTree → TypeTree
 adjusted (Of c (Array of count)) = pointer_to of
 adjusted (Of c (Function params result)) = pointer_to (Of c (Function params result))
 adjusted t = t
-
--- in the type of the function a parameter has no `const` of its own (6.7.6.3p15)
-abbrev pub without_const : TypeTree → TypeTree
-without_const (Of c form) = Of false form
-
--- ---- how deep a type is: pointers, arrays and functions on the longest way down
-unfoldable mutual
-  pub type_depth : TypeTree → ℕ
-  type_depth (Of c form) = form_depth form
-
-  pub form_depth : FormTree → ℕ
-  form_depth Void = 0
-  form_depth Boolean = 0
-  form_depth (Integer bits signed) = 0
-  form_depth (Pointer to schema) = suc (type_depth to)
-  form_depth (Array of count) = suc (type_depth of)
-  form_depth (Struct id) = 0
-  form_depth (Function params result) = suc (max (types_depth params) (type_depth result))
-
-  pub types_depth : TypeTrees → ℕ
-  types_depth Nil = 0
-  types_depth (Cons first rest) = max (type_depth first) (types_depth rest)
 
 -- no array with a length in the type, behind a pointer or in a function's type too, is without a layout
 abbrev pub array_fits : Table → TypeTree → Option ℕ → Bool

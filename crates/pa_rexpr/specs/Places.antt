@@ -15,7 +15,8 @@ use Rattle.pa_typed.specs.Typed.{TypedExpr}
 use Rattle.pa_typed.specs.Typed as to
 use Rattle.pa_rexpr.specs.declared.rule.TypeRule.TheVariants.{C3, C4, C5, C11, C12}
 use Rattle.pa_rexpr.specs.Answers.{Answer, breaks_at, then_with, at_place}
-use Rattle.pa_rexpr.specs.Conversions.{int, unsigned_long, pointer_to, value_type, with_const, schema_of, is_integer, is_void, is_array, is_function, is_movable, target}
+use Rattle.pa_rexpr.specs.Conversions.{int, unsigned_long, pointer_to, value_type, schema_of, is_integer, is_void, is_array, is_function, is_movable, target}
+use Rattle.pa_ctype.specs.Qualifiers.{with_const}
 use Rattle.pa_rexpr.specs.Values.{Typed, Category, Lvalue, Designator, lvalue, value, designator, read, given}
 use Rattle.pa_rexpr.specs.Operators.{binary_value}
 

@@ -9,7 +9,8 @@ use Rattle.pa_typed.specs.Typed.{TypedExpr}
 use Rattle.pa_typed.specs.Typed as to
 use Rattle.pa_rexpr.specs.declared.rule.TypeRule.{TypeRule}
 use Rattle.pa_rexpr.specs.declared.rule.TypeRule.TheVariants.{C7, C10, C11, C23}
-use Rattle.pa_rexpr.specs.Conversions.{pointer_to, value_type, schema_of, same_bare, is_integer, is_boolean, is_pointer, is_void, is_struct, is_complete, takes}
+use Rattle.pa_rexpr.specs.Conversions.{pointer_to, value_type, schema_of, is_integer, is_boolean, is_pointer, is_void, is_struct, is_complete, takes}
+use Rattle.pa_ctype.specs.Qualifiers.{same_bare}
 
 -- An lvalue (6.3.2.1p1); a place that is none, as a struct that `?:` or a comma gives; a value; a function (6.3.2.1p4).
 pub data Category : Type 0 where
