@@ -1,7 +1,9 @@
 -- What a line says has the form of an item.
-use Rattle.std.proofs.Common.{◌≡◌, ℕ, Bool, true, false, cond, ◌&&◌, ◌==◌, List, [], ◌∷◌, length, Option, Some, None, Result, Ok, Err, refl, sym, ap, ◌∙◌, subst}
+use Rattle.std.proofs.Common.{◌≡◌, ℕ, suc, Bool, true, false, cond, leb, ltb, ◌==◌, List, [], ◌∷◌, length, Option, Some, None, Result, Ok, Err, refl, sym, ap, ◌∙◌, subst}
 use Rattle.std.specs.Prelude.{option_and_then, option_map, codes}
+use Rattle.std.specs.List.{list_all}
 use Rattle.std.specs.Str.{bytes_eq}
+use Rattle.std.proofs.lemmas.Bool.{and_parts, and_from, lt-ltb}
 use Rattle.hex.specs.Hex.{decode_of, IsBytes}
 use Rattle.hex.specs.declared.error.FromHexError.{FromHexError}
 use Rattle.hex.proofs.HexLemmas.{decode_of-ok}
@@ -91,12 +93,22 @@ deed-sized word parts d e = go (bytes_eq word (codes "write")) (bytes_eq word (c
     go false true e = copy-sized parts d e
     go false false e = cc
 
+all_below : (bytes : List ℕ) → IsBytes bytes → list_all (λ byte. ltb byte 256) bytes ≡ true
+all_below [] h = refl
+all_below (byte ∷ bytes) h =
+    and_from (ltb byte 256) (list_all (λ byte. ltb byte 256) bytes) (lt-ltb byte 256 (h 0)) (all_below bytes (λ i. h (suc i)))
+
 sized-line : (item : Item) → IsSized item.deed → is_line item ≡ true
 sized-line item h = go item.deed h
   where
     go : (d : Deed) → IsSized d → is_line (record { step = item.step; deed = d }) ≡ true
-    go (deed.Write at bytes) h = h.size
-    go (deed.Copy to from count) h = h
+    go (deed.Write at bytes) h =
+        let size = and_parts (leb 1 (length bytes)) (leb (length bytes) 4096) h.size in
+        let below = all_below bytes h.are_bytes in
+        simp (size.0, size.1, below)
+    go (deed.Copy to from count) h =
+        let size = and_parts (leb 1 count) (leb count 4096) h in
+        simp (size.0, size.1)
 
 item-sized : (parts : List Text) (item : Item) → items.item_of_parts parts ≡ Some item → IsSized item.deed
 item-sized [] item e = cc
