@@ -1,3 +1,6 @@
 mod Above
+mod Below
+mod Placing
 mod Rows
 pub mod Runs
+mod Walking

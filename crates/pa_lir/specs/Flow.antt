@@ -1,5 +1,6 @@
 -- The ways through the code of a function.
-use Rattle.std.specs.Prelude.{◌≡◌, ℕ, suc, Bool, false, ◌==◌, if◌then◌else◌, Contains, List, [], ◌∷◌, slice_get, Option, Some, None, option_map}
+use Rattle.std.specs.Prelude.{◌≡◌, ◌⊎◌, ℕ, suc, Bool, false, ◌==◌, nat_eq, IsTrue, if◌then◌else◌, List, [], ◌∷◌, slice_get, Option, Some, None, option_map}
+use Rattle.std.specs.List.{list_any}
 use Rattle.std.specs.Option.{option_to_list}
 use Rattle.pa_lir.specs.declared.op.Op.{Op}
 use Rattle.pa_lir.specs.declared.op.Op.TheVariants as op
@@ -26,8 +27,13 @@ abbrev pub next_places_of : List Op → ℕ → Option Op → List ℕ
 next_places_of ops at None = []
 next_places_of ops at (Some o) = next_places ops at o
 
+-- one of the numbers of a list
+abbrev pub is_among : List ℕ → ℕ → Bool
+is_among ns n = list_any (nat_eq n) ns
+
+-- the place after may come next behind the place before
 abbrev pub Follows : List Op → (before after : ℕ) → Type 0
-Follows ops before after = Contains (next_places_of ops before (slice_get ops before)) after
+Follows ops before after = IsTrue (is_among (next_places_of ops before (slice_get ops before)) after)
 
 -- places that may come one after the other from the function's entry on, the newest first
 unfoldable pub IsPath : List Op → List ℕ → Type 0
@@ -39,11 +45,12 @@ abbrev pub Writes : List Op → ℕ → (at : ℕ) → Type 0
 Writes ops t at = (o : Op) × (slice_get ops at ≡ Some o) × (written_by o ≡ Some t)
 
 abbrev pub Reads : List Op → ℕ → (at : ℕ) → Type 0
-Reads ops t at = (o : Op) × (slice_get ops at ≡ Some o) × Contains (read_by o) t
+Reads ops t at = (o : Op) × (slice_get ops at ≡ Some o) × IsTrue (is_among (read_by o) t)
 
 -- one of the places writes the temporary
-abbrev pub WritesOn : List Op → ℕ → List ℕ → Type 0
-WritesOn ops t path = (at : ℕ) × Contains path at × Writes ops t at
+unfoldable pub WritesOn : List Op → ℕ → List ℕ → Type 0
+WritesOn ops t [] = ⊥
+WritesOn ops t (at ∷ path) = Writes ops t at ⊎ WritesOn ops t path
 
 -- on every path the temporary is written before it is read
 abbrev pub IsWrittenFirst : List Op → ℕ → Type 0

@@ -1,8 +1,10 @@
 pub mod Flow
 pub mod Meaning
 pub mod Operators
+pub mod Placing
 pub mod Parts
 pub mod Reads
 pub mod Ready
 pub mod Values
+pub mod Walks
 pub mod WellFormed

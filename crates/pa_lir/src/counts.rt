@@ -1,7 +1,8 @@
 //! What operations read, write and cost, and what is counted on functions.
 
-ghost use Rattle.std.specs.Prelude.{◌≡◌, ◌<◌, ◌^◌, max};
+ghost use Rattle.std.specs.Prelude.{◌≡◌, ◌≤◌, ◌<◌, ◌^◌};
 ghost use Rattle.std.specs.Option.{option_to_list};
+ghost use Rattle.pa_lir.specs.Flow.{is_among};
 ghost use Rattle.pa_lir.specs.Parts as spec;
 ghost use Rattle.pa_lir.specs.Reads as spec_reads;
 
@@ -25,6 +26,15 @@ impl<'a> Reads<'a> {
             second,
             others: &[],
         }
+    }
+}
+
+impl Reads<'_> {
+    /// One of them is this one.
+    pub(crate) fn has(&self, temp: Temp) -> bool
+        ensures { result ≡ is_among (spec_reads.all self.now) temp }
+    {
+        self.first == Some(temp) || self.second == Some(temp) || self.others.contains(&temp)
     }
 }
 
@@ -117,7 +127,8 @@ impl Op {
 /// One more than the number, or 0 where there is none.
 #[tactic(auto, unfolding(crate::specs::Parts::above))]
 fn above_one(temp: Option<Temp>) -> u64
-    ensures { result ≡ spec.above (option_to_list temp) }
+    ensures value { result ≡ spec.above (option_to_list temp) }
+    ensures bound { result ≤ 2 ^ 32 }
 {
     match temp {
         Some(temp) => u64::from(temp) + 1,
@@ -129,7 +140,7 @@ fn above_one(temp: Option<Temp>) -> u64
 #[tactic(auto, unfolding(crate::specs::Parts::above))]
 fn above(temps: &[Temp]) -> u64
     ensures value { result ≡ spec.above temps.now }
-    ensures bound { result < 2 ^ 33 }
+    ensures bound { result ≤ 2 ^ 32 }
 {
     let mut largest = 0;
     let mut rest = temps;
@@ -143,7 +154,8 @@ fn above(temps: &[Temp]) -> u64
 /// One more than the largest number of a temporary that the operation reads or writes, or 0 where there is none.
 #[tactic(auto, using(crate::proofs::Above::above_reads))]
 fn above_op(op: &Op) -> u64
-    ensures { result ≡ spec.above_op op.now }
+    ensures value { result ≡ spec.above_op op.now }
+    ensures bound { result ≤ 2 ^ 32 }
 {
     let reads = op.reads();
     above_one(op.written())
@@ -152,18 +164,26 @@ fn above_op(op: &Op) -> u64
         .max(above(reads.others))
 }
 
-/// How many temporaries the function holds: one more than the largest number.
+/// One more than the largest number of a temporary of the operations, or 0 where there is none.
 #[tactic(auto, unfolding(crate::specs::Parts::above_all))]
-pub fn held(function: &LirFn) -> u64
-    ensures { result ≡ spec.held function.now }
+pub(crate) fn above_all(ops: &[Op]) -> u64
+    ensures value { result ≡ spec.above_all ops.now }
+    ensures bound { result ≤ 2 ^ 32 }
 {
     let mut largest = 0;
-    let mut rest = function.ops.as_slice();
+    let mut rest = ops;
     'ops: while let [op, tail @ ..] = rest {
         largest = above_op(op).max(largest);
         rest = tail;
     }
     largest
+}
+
+/// How many temporaries the function holds: one more than the largest number.
+pub fn held(function: &LirFn) -> u64
+    ensures { result ≡ spec.held function.now }
+{
+    above_all(function.ops.as_slice())
 }
 
 /// The sizes of the function's locals in bytes, each rounded up to 8.
