@@ -1,5 +1,5 @@
 -- The report is that of the text's program.
-use Rattle.std.proofs.Common.{List, ℕ, sym, subst}
+use Rattle.std.proofs.Common.{List, ℕ, subst}
 use Rattle.pa_paclab.specs.Answers.{Accepts, Reading}
 use Rattle.pa_paclab.proofs.Reports.{reported}
 use Rattle.pa_paclab.proofs.Texts.{found}
