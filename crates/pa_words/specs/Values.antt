@@ -1,5 +1,5 @@
 -- What the words behind options, and the numbers of `bulk`, say.
-use Rattle.std.specs.Prelude.{ℕ, List, Bool, true, ◌&&◌, ◌^◌, ◌-◌, nat_le, length, if◌then◌else◌, Option, Some, None, is_some}
+use Rattle.std.specs.Prelude.{◌≡◌, ℕ, List, Bool, true, false, ◌&&◌, ◌^◌, ◌-◌, nat_le, length, if◌then◌else◌, Option, Some, None, is_some}
 use Rattle.std.specs.Str.{all_ascii_digits}
 use Rattle.std.specs.Str.Parse.{digits_value}
 use Rattle.pa_words.specs.declared.names.OptionName.{OptionName}
@@ -41,3 +41,9 @@ allowed option.Pac w = is_some (pac_named w)
 allowed option.Seed w = is_some (seed_of w)
 allowed option.Log w = is_some (log_named w)
 allowed option.Fuel w = is_some (fuel_of w)
+
+abbrev pub IsValue : OptionName → List ℕ → Type 0
+IsValue option w = allowed option w ≡ true
+
+abbrev pub IsNoValue : OptionName → List ℕ → Type 0
+IsNoValue option w = allowed option w ≡ false

@@ -1,3 +1,5 @@
+//! Commands with their operands and options, and the rules of usage.
+
 use crate::names::{LogForm, PacName};
 use crate::word::{Operands, Word};
 

@@ -1,7 +1,9 @@
-ghost use Rattle.std.specs.Prelude.{◌≡◌, [], MatchOption, OnSome, true, false};
+//! What the options of a command line say, field by field.
+
+ghost use Rattle.std.specs.Prelude.{◌≡◌, [], MatchOption, OnSome};
 ghost use Rattle.pa_words.specs.Fields.{given_in, is_given, with_option, SaysRun, SaysMean};
 ghost use Rattle.pa_words.specs.Usage as usage;
-ghost use Rattle.pa_words.specs.Values.{allowed};
+ghost use Rattle.pa_words.specs.Values.{IsValue, IsNoValue};
 
 use crate::command::{Input, MeanOptions, RunOptions};
 use crate::names::{LogForm, OptionName, PacName};
@@ -28,6 +30,7 @@ pub struct Given<'a> {
 }
 
 impl<'a> Given<'a> {
+    /// No option yet.
     pub fn none() -> Given<'a>
         ensures { result ≡ given_in [] }
     {
@@ -61,7 +64,7 @@ impl<'a> Given<'a> {
 
     /// Takes an option's value, or nothing where the value isn't one of its own.
     pub fn take(&mut self, option: OptionName, value: &'a str) -> Option<()>
-        ensures allowed { MatchOption result (allowed option value.now ≡ false) (λ _. allowed option value.now ≡ true) }
+        ensures allowed { MatchOption result (IsNoValue option value.now) (λ _. IsValue option value.now) }
         ensures taken { OnSome result (self.new ≡ with_option self.old option value.now) }
     {
         match option {

@@ -1,3 +1,5 @@
+//! The names of commands, options and their values.
+
 ghost use Rattle.std.specs.Prelude.{◌≡◌};
 ghost use Rattle.pa_words.specs.Names as names;
 

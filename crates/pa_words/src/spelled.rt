@@ -1,3 +1,5 @@
+//! From words to a command.
+
 ghost use Rattle.std.specs.Prelude.{◌≡◌, [], ◌∷◌, ◌++◌, ◌<◌, length, map, string_bytes, true, false, IfOk, IfErr, Ok, Err, codes};
 ghost use Rattle.std.specs.Str.{bytes_eq};
 ghost use Rattle.pa_words.specs.Answers.{IsSpelled, IsUsage, IsFlaw, AllRead, OptionTaken, OptionRefused, IsCommand, BulkOf};

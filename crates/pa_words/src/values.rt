@@ -1,3 +1,5 @@
+//! The numbers of options and operands.
+
 ghost use Rattle.std.specs.Prelude.{◌≡◌};
 ghost use Rattle.std.specs.Str.{all_ascii_digits};
 ghost use Rattle.pa_words.specs.Values as spec;
@@ -44,6 +46,7 @@ pub fn number(word: &str, least: u64, most: u64) -> Option<u64>
     }
 }
 
+/// How many instructions may run, by the value of `--steps`.
 pub fn steps(word: &str) -> Option<u32>
     ensures { result ≡ spec.steps_of word.now }
 {
@@ -51,6 +54,7 @@ pub fn steps(word: &str) -> Option<u32>
     Some(number as u32)
 }
 
+/// How many pages the image is moved by, by the value of `--slide`.
 pub fn slide(word: &str) -> Option<u16>
     ensures { result ≡ spec.slide_of word.now }
 {
@@ -58,12 +62,14 @@ pub fn slide(word: &str) -> Option<u16>
     Some(number as u16)
 }
 
+/// The value of `--seed`, or the first number of `bulk`.
 pub fn seed(word: &str) -> Option<u64>
     ensures { result ≡ spec.seed_of word.now }
 {
     number(word, 0, u64::MAX)
 }
 
+/// How many units of work the meaning may take, by the value of `--fuel`.
 pub fn fuel(word: &str) -> Option<u32>
     ensures { result ≡ spec.fuel_of word.now }
 {
@@ -71,6 +77,7 @@ pub fn fuel(word: &str) -> Option<u32>
     Some(number as u32)
 }
 
+/// How many functions a program of `bulk` has.
 pub fn size(word: &str) -> Option<u32>
     ensures { result ≡ spec.size_of word.now }
 {

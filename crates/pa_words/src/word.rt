@@ -1,3 +1,5 @@
+//! The words of a command line.
+
 use pa_num::Sequence;
 use std::marker::Model;
 
@@ -22,12 +24,14 @@ impl<'a> Model for Word<'a> {
 impl<'a> Word<'a> {
     ghost use Rattle.std.specs.Prelude.{◌≡◌};
 
+    /// The word with this text.
     pub fn new(text: &'a str) -> Word<'a>
         ensures { result ≡ text.now }
     {
         Word { text }
     }
 
+    /// Its text.
     pub fn as_str(&self) -> &'a str
         ensures { result.now ≡ self.now }
     {
