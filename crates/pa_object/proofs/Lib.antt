@@ -3,9 +3,11 @@ pub mod Fetched
 pub mod Growth
 pub mod Linked
 pub mod Marked
+pub mod Numbers
 pub mod Placed
 pub mod Rounding
 pub mod Rows
+pub mod Scripts
 pub mod Stepping
 pub mod Steps
 pub mod StepsBranching
@@ -16,3 +18,4 @@ pub mod StepsRun
 pub mod StepsSigning
 pub mod Watching
 pub mod Wide
+pub mod Widths

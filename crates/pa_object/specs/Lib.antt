@@ -7,3 +7,4 @@ pub mod Run
 pub mod Script
 pub mod Shape
 pub mod Traps
+pub mod Widths
