@@ -1,5 +1,6 @@
 -- The laws of a loaded state.
 use Rattle.std.proofs.Common.{◌≡◌, ℕ, ◌+◌, ◌-◌, ◌*◌, ◌%◌, ◌≤◌, ◌<◌, true, List, [], ◌∷◌, ◌++◌, length, refl, sym, ap, subst, ◌∙◌, arith, Option, Some, None, ◌⊎◌, inl, inr}
+use Rattle.std.specs.Prelude.{All}
 use Rattle.std.specs.Option.{option_or}
 use Rattle.pa_layout.specs.Fields.{number}
 use Rattle.pa_pac.specs.Signing.{Code}
@@ -24,8 +25,9 @@ use Rattle.pa_load.specs.Ready.{AllReady}
 use Rattle.pa_load.proofs.Fetched.{area_fetched, or_some}
 use Rattle.pa_load.proofs.Filled.{Spaced, length-filled, slot_held, slot_inside, slot_value-lt}
 use Rattle.pa_load.proofs.Regions.{Ascending, ascending_apart, allowed_here, load_here}
+use Rattle.pa_load.proofs.Signs.{IsLoadSign, log_signs_low}
 use Rattle.pa_load.proofs.Slots.{fillable, fields_fit, pointer_ready}
-use Rattle.pa_load.proofs.Whole.{length-blank, length-bytes_of, sized}
+use Rattle.pa_load.proofs.Whole.{others_are, length-blank, length-bytes_of, sized}
 
 -- both images have bytes, and these are few
 pub record AreLoadable (main runtime : Image) : Type 0 where
@@ -154,6 +156,13 @@ slot_loaded code main runtime slide state l i before fix after e =
       ap (λ (m : List Region). allowed Write m (slot_address f fix) 8) same
           ∙ allowed_here Write memory 1 region (slot_address f fix) 8 here (omega arith) (omega arith) refl,
     )
+
+-- the log is of signatures of loading, each of a canonical address
+pub signs_of_loading : (code : Code) (main runtime : Image) (slide : ℕ) (state : State) → AreLoadable main runtime → IsLoaded code main runtime slide state → All IsLoadSign state.log
+signs_of_loading code main runtime slide state l i =
+    let p = places_of (header_of main) in
+    let slots = fillable main runtime slide (p.linkedit - p.got) l.main_legal l.main_small i.program i.slide_fits l.runtime_legal l.runtime_small i.found refl in
+    subst (All IsLoadSign) (sym (ap (λ (s : State). s.log) i.state_is ∙ (others_are code main runtime slide).0)) (log_signs_low code (filling main runtime slide) (p.linkedit - p.got) main.fixes slots.ready)
 
 -- ---- code
 

@@ -5,5 +5,6 @@ pub mod Imports
 pub mod Kept
 pub mod Laws
 pub mod Regions
+pub mod Signs
 pub mod Slots
 pub mod Whole
