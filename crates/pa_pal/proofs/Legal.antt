@@ -23,9 +23,9 @@ use Rattle.pa_symbols.proofs.Distinct.{no_names}
 use Rattle.pa_image.specs.Bytes.{header_of, data_at, text_at}
 use Rattle.pa_image.specs.Places.{exported}
 use Rattle.pa_image.specs.Small.{IsSmall}
+use Rattle.pa_image.specs.Pal.{pal, marks, exports}
 use Rattle.pa_image.specs.Writing.{AreWords, BesideBytes, PartsFit, IsLegal}
 use Rattle.pa_image.proofs.Beside.{tested}
-use Rattle.pa_pal.specs.Pal.{pal, marks, exports}
 
 -- ---- the header and the places
 
