@@ -1,3 +1,4 @@
+pub mod Contents
 pub mod Fetched
 pub mod Filled
 pub mod Going
