@@ -16,7 +16,7 @@ use Rattle.pa_object.specs.Machine.{Machine, register, goes_to, after, next, con
 use Rattle.pa_object.specs.Traps.{trap_of}
 use Rattle.pa_object.specs.Effects.{effect, branched, way_to, is_taken, left_by, prints, reads, exits}
 use Rattle.pa_object.specs.Run.{ends, step, on_word, on_instr, unless_trap}
-use Rattle.pa_object.proofs.Placed.{Stands}
+use Rattle.pa_object.specs.Placed.{Stands}
 use Rattle.pa_object.proofs.Steps.{step_at}
 
 -- ---- distances

@@ -18,7 +18,7 @@ use Rattle.pa_object.specs.Machine.{Machine, register, register_or_sp, with_regi
 use Rattle.pa_object.specs.Traps.{trap_of}
 use Rattle.pa_object.specs.Effects.{effect, moved, immediate_sum, immediate_of, summed, logical, multiplied, quotient, shifted_by, bitfield}
 use Rattle.pa_object.specs.Run.{step}
-use Rattle.pa_object.proofs.Placed.{Stands}
+use Rattle.pa_object.specs.Placed.{Stands}
 use Rattle.pa_object.proofs.Steps.{step_at}
 
 module _ (code : Code) (m : Machine) where

@@ -15,7 +15,7 @@ use Rattle.pa_object.specs.Machine.{Machine, next}
 use Rattle.pa_object.specs.Traps.{trap_of, address, abort_unless, right_of, right_of_word, right_of_half, right_of_byte, right_of_unscaled, right_of_pair}
 use Rattle.pa_object.specs.Effects.{effect, loaded_or_stored, loaded_or_stored_word, loaded_or_stored_half, loaded_or_stored_byte, loaded_or_stored_unscaled, loaded_or_stored_pair}
 use Rattle.pa_object.specs.Run.{step}
-use Rattle.pa_object.proofs.Placed.{Stands}
+use Rattle.pa_object.specs.Placed.{Stands}
 use Rattle.pa_object.proofs.Steps.{step_at}
 
 module _ (code : Code) (m : Machine) where

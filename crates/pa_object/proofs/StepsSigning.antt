@@ -14,7 +14,7 @@ use Rattle.pa_object.specs.Machine.{Machine, register, register_or_sp, with_regi
 use Rattle.pa_object.specs.Traps.{trap_of, key_of_authenticate}
 use Rattle.pa_object.specs.Effects.{effect, links, signed_in, key_of_sign}
 use Rattle.pa_object.specs.Run.{step}
-use Rattle.pa_object.proofs.Placed.{Stands}
+use Rattle.pa_object.specs.Placed.{Stands}
 use Rattle.pa_object.proofs.Steps.{step_at}
 
 module _ (code : Code) (m : Machine) where

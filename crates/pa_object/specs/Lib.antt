@@ -2,6 +2,7 @@ pub mod Effects
 pub mod Linkable
 pub mod Machine
 pub mod Marked
+pub mod Placed
 pub mod Rows
 pub mod Run
 pub mod Script
