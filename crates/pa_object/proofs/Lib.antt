@@ -1,5 +1,6 @@
 pub mod Comparing
 pub mod Fetched
+pub mod Filled
 pub mod Growth
 pub mod Linked
 pub mod Marked
@@ -8,6 +9,7 @@ pub mod Placed
 pub mod Rounding
 pub mod Rows
 pub mod Scripts
+pub mod Shapes
 pub mod Stepping
 pub mod Steps
 pub mod StepsBranching

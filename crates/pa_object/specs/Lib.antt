@@ -1,4 +1,5 @@
 pub mod Effects
+pub mod Filled
 pub mod Linkable
 pub mod Machine
 pub mod Marked
