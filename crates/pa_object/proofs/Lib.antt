@@ -21,3 +21,4 @@ pub mod StepsSigning
 pub mod Watching
 pub mod Wide
 pub mod Widths
+pub mod Worked
