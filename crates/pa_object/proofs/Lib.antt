@@ -18,6 +18,7 @@ pub mod StepsLeads
 pub mod StepsMemory
 pub mod StepsRun
 pub mod StepsSigning
+pub mod Stub
 pub mod Watching
 pub mod Wide
 pub mod Widths

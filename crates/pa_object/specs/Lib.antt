@@ -8,5 +8,6 @@ pub mod Rows
 pub mod Run
 pub mod Script
 pub mod Shape
+pub mod Stub
 pub mod Traps
 pub mod Widths
