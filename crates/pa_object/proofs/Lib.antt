@@ -6,6 +6,7 @@ pub mod Linked
 pub mod Marked
 pub mod Numbers
 pub mod Placed
+pub mod Remainder
 pub mod Rounding
 pub mod Rows
 pub mod Scripts
