@@ -1,5 +1,5 @@
 -- The laws of a loaded state.
-use Rattle.std.proofs.Common.{◌≡◌, ℕ, ◌+◌, ◌-◌, ◌*◌, ◌%◌, ◌≤◌, ◌<◌, true, List, [], ◌∷◌, ◌++◌, length, get_or, refl, sym, ap, subst, ◌∙◌, arith, Option, Some, None, ◌⊎◌, inl, inr}
+use Rattle.std.proofs.Common.{◌≡◌, ℕ, ◌+◌, ◌-◌, ◌*◌, ◌%◌, ◌≤◌, ◌<◌, true, List, [], ◌∷◌, ◌++◌, length, get_or, zero-add, refl, sym, ap, subst, ◌∙◌, arith, Option, Some, None, ◌⊎◌, inl, inr}
 use Rattle.std.specs.Prelude.{All}
 use Rattle.std.specs.Option.{option_or}
 use Rattle.pa_layout.specs.Fields.{number}
@@ -47,19 +47,19 @@ one_loaded code main runtime slide state other i j = i.state_is ∙ sym j.state_
 
 -- ---- where things lie
 
-record Bases (main runtime : Image) (slide : ℕ) : Type 0 where
+pub record Bases (main runtime : Image) (slide : ℕ) : Type 0 where
   pub main_base : base_at main.role slide ≡ 0x100000000 + 0x4000 * slide
   pub runtime_base : base_at runtime.role 0 ≡ 0x180000000
 
-bases : (code : Code) (main runtime : Image) (slide : ℕ) (state : State) → IsLoaded code main runtime slide state → Bases main runtime slide
+pub bases : (code : Code) (main runtime : Image) (slide : ℕ) (state : State) → IsLoaded code main runtime slide state → Bases main runtime slide
 bases code main runtime slide state i = record { main_base = ap (λ (r : Role). base_at r slide) i.program; runtime_base = ap (λ (r : Role). base_at r 0) i.library }
 
 -- the bytes of __DATA with its slots filled
-abbrev contents_of : Code → Image → Image → ℕ → List ℕ
+abbrev pub contents_of : Code → Image → Image → ℕ → List ℕ
 contents_of code main runtime slide =
     let p = places_of (header_of main) in filled code (filling main runtime slide) main.fixes (part p.got p.linkedit (bytes_of main))
 
-length-contents_of : (code : Code) (main runtime : Image) (slide : ℕ) (state : State) → AreLoadable main runtime → IsLoaded code main runtime slide state → length (contents_of code main runtime slide) ≡ (places_of (header_of main)).linkedit - (places_of (header_of main)).got
+pub length-contents_of : (code : Code) (main runtime : Image) (slide : ℕ) (state : State) → AreLoadable main runtime → IsLoaded code main runtime slide state → length (contents_of code main runtime slide) ≡ (places_of (header_of main)).linkedit - (places_of (header_of main)).got
 length-contents_of code main runtime slide state l i =
     let p = places_of (header_of main) in
     let z = sized main l.main_legal in
@@ -89,10 +89,10 @@ ascending code main runtime slide state l i =
     let s = length-blank stack_size in
     (omega arith, (omega arith, (omega arith, (omega arith, (omega arith, (omega arith, (omega arith, tt)))))))
 
-memory_apart : (code : Code) (main runtime : Image) (slide : ℕ) (state : State) → AreLoadable main runtime → IsLoaded code main runtime slide state → all_apart (loaded code main runtime slide).memory ≡ true
+pub memory_apart : (code : Code) (main runtime : Image) (slide : ℕ) (state : State) → AreLoadable main runtime → IsLoaded code main runtime slide state → all_apart (loaded code main runtime slide).memory ≡ true
 memory_apart code main runtime slide state l i = ascending_apart 0 (loaded code main runtime slide).memory (ascending code main runtime slide state l i)
 
-memory_of_state : (code : Code) (main runtime : Image) (slide : ℕ) (state : State) → IsLoaded code main runtime slide state → state.memory ≡ (loaded code main runtime slide).memory
+pub memory_of_state : (code : Code) (main runtime : Image) (slide : ℕ) (state : State) → IsLoaded code main runtime slide state → state.memory ≡ (loaded code main runtime slide).memory
 memory_of_state code main runtime slide state i = ap (λ (s : State). s.memory) i.state_is
 
 -- no two regions overlap
@@ -106,19 +106,19 @@ written_or_run code main runtime slide state i = ap write_xor_run (memory_of_sta
 
 -- ---- the regions
 
-main_text : (code : Code) (main runtime : Image) (slide : ℕ) → mem.IsAt (loaded code main runtime slide).memory 0 (region_of (base_at main.role slide) (part 0 (places_of (header_of main)).got (bytes_of main)) text_rights)
+pub main_text : (code : Code) (main runtime : Image) (slide : ℕ) → mem.IsAt (loaded code main runtime slide).memory 0 (region_of (base_at main.role slide) (part 0 (places_of (header_of main)).got (bytes_of main)) text_rights)
 unfolding loaded
 main_text code main runtime slide = record { within = omega arith; found = refl }
 
-main_data : (code : Code) (main runtime : Image) (slide : ℕ) → mem.IsAt (loaded code main runtime slide).memory 1 (region_of (base_at main.role slide + (places_of (header_of main)).got) (contents_of code main runtime slide) data_rights)
+pub main_data : (code : Code) (main runtime : Image) (slide : ℕ) → mem.IsAt (loaded code main runtime slide).memory 1 (region_of (base_at main.role slide + (places_of (header_of main)).got) (contents_of code main runtime slide) data_rights)
 unfolding loaded
 main_data code main runtime slide = record { within = omega arith; found = refl }
 
-the_stack : (code : Code) (main runtime : Image) (slide : ℕ) → mem.IsAt (loaded code main runtime slide).memory 3 stack
+pub the_stack : (code : Code) (main runtime : Image) (slide : ℕ) → mem.IsAt (loaded code main runtime slide).memory 3 stack
 unfolding loaded
 the_stack code main runtime slide = record { within = omega arith; found = refl }
 
-runtime_text : (code : Code) (main runtime : Image) (slide : ℕ) → mem.IsAt (loaded code main runtime slide).memory 4 (region_of (base_at runtime.role 0) (part 0 (places_of (header_of runtime)).got (bytes_of runtime)) text_rights)
+pub runtime_text : (code : Code) (main runtime : Image) (slide : ℕ) → mem.IsAt (loaded code main runtime slide).memory 4 (region_of (base_at runtime.role 0) (part 0 (places_of (header_of runtime)).got (bytes_of runtime)) text_rights)
 unfolding loaded
 runtime_text code main runtime slide = record { within = omega arith; found = refl }
 
@@ -190,7 +190,7 @@ constant_loaded code main runtime slide state l i k lt =
     let here = main_text code main runtime slide in
     let same = memory_of_state code main runtime slide state i in (
       ap (λ (m : List Region). byte_at m at) same ∙ byte_here memory 0 region at (p.consts + k) here (memory_apart code main runtime slide state l i) (omega arith) (omega arith)
-          ∙ byte_in_part 0 p.got (p.consts + k) bytes (omega arith) ∙ byte_that_stands p.consts k bytes main.consts stands.parts.consts lt,
+          ∙ byte_in_part 0 p.got (p.consts + k) bytes (omega arith) ∙ ap (λ (n : ℕ). get_or bytes n 0) (zero-add (p.consts + k)) ∙ byte_that_stands p.consts k bytes main.consts stands.parts.consts lt,
       ap (λ (m : List Region). allowed Read m at 1) same ∙ allowed_here Read memory 0 region at 1 here (omega arith) (omega arith) refl,
     )
 

@@ -4,8 +4,10 @@ pub mod Filled
 pub mod Going
 pub mod Imports
 pub mod Kept
+pub mod Known
 pub mod Laws
 pub mod Regions
 pub mod Signs
 pub mod Slots
+pub mod State
 pub mod Whole
