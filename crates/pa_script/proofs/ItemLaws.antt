@@ -8,7 +8,8 @@ use Rattle.hex.proofs.HexLemmas.{decode_of-ok}
 use Rattle.pa_object.specs.declared.script.Deed.{Deed}
 use Rattle.pa_object.specs.declared.script.Deed.TheVariants as deed
 use Rattle.pa_object.specs.declared.script.Item.{Item}
-use Rattle.pa_object.specs.Script.{is_line}
+use Rattle.pa_object.specs.Script.{is_line, are_bytes}
+use Rattle.pa_object.proofs.Scripts.{AreBytes-are_bytes}
 use Rattle.pa_script.specs.Pieces.{Text, parts_of}
 use Rattle.pa_script.specs.Items as items
 
@@ -91,12 +92,23 @@ deed-sized word parts d e = go (bytes_eq word (codes "write")) (bytes_eq word (c
     go false true e = copy-sized parts d e
     go false false e = cc
 
+three : (a b c : Bool) → (a && b) ≡ true → c ≡ true → (a && (b && c)) ≡ true
+three true true c h t = t
+three true false c h t = cc
+three false b c h t = cc
+
+-- an item that writes the bytes of digits is a line
+pub write-line : (step at : ℕ) (digits : Text) (bytes : List ℕ) → items.bytes digits ≡ Some bytes → is_line (record { step = step; deed = deed.Write at bytes }) ≡ true
+write-line step at digits bytes e =
+    let written = bytes-written digits bytes e in
+    three _ _ (are_bytes bytes) written.size (AreBytes-are_bytes bytes written.are_bytes)
+
 sized-line : (item : Item) → IsSized item.deed → is_line item ≡ true
 sized-line item h = go item.deed h
   where
     go : (d : Deed) → IsSized d → is_line (record { step = item.step; deed = d }) ≡ true
-    go (deed.Write at bytes) h = h.size
-    go (deed.Copy to from count) h = h
+    go (deed.Write at bytes) h = three _ _ (are_bytes bytes) h.size (AreBytes-are_bytes bytes h.are_bytes)
+    go (deed.Copy to from count) h = three _ _ true h refl
 
 item-sized : (parts : List Text) (item : Item) → items.item_of_parts parts ≡ Some item → IsSized item.deed
 item-sized [] item e = cc
