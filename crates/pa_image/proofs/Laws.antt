@@ -27,7 +27,8 @@ use Rattle.pa_image.specs.declared.image.Image.{Image}
 use Rattle.pa_image.specs.Bytes.{data_at, header_of, part, slots_at, text_at, Stands, IsImage}
 use Rattle.pa_image.specs.Known.{Known}
 use Rattle.pa_image.specs.Reading.{symbols_at}
-use Rattle.pa_image.specs.Writing.{BesideBytes, HasBytes, IsLegal, gap, starts_with, pages_with, bytes_of}
+use Rattle.pa_image.specs.Writing.{HasBytes, IsLegal, gap, starts_with, pages_with, bytes_of}
+use Rattle.pa_image.proofs.Beside.{beside_of}
 use Rattle.pa_image.proofs.Cut.{starts_known, part_stands, IsBytes-part}
 use Rattle.pa_image.proofs.Header.{known, parts_moved}
 use Rattle.pa_image.proofs.Made.{pieces, bytes_joined, chained, sized, image_made, writable}
@@ -89,8 +90,8 @@ imports_fit at fixups f = record {
   names = f.names;
 }
 
-pub image_legal : (image : Image) (bytes : List ℕ) → IsBytes image.cells → IsImage image bytes → IsLegal image
-image_legal image bytes fits i =
+pub image_legal : (image : Image) (bytes : List ℕ) → IsBytes bytes → IsBytes image.cells → IsImage image bytes → IsLegal image
+image_legal image bytes b fits i =
     let h = header_of image in
     let p = places_of h in
     let k = known_of h bytes i.header in
@@ -100,6 +101,7 @@ image_legal image bytes fits i =
     let inside : cells_from (slots_at h p (length image.imports)) + h.cells ≤ length (part p.got p.linkedit bytes) = f.inside in
     record {
       words = record { text = i.parts.text.1; stubs = i.parts.stubs.1; cells = fits };
+      beside = beside_of image bytes b i;
       header = header_fits h bytes i.header;
       parts = record {
         imports = imports_fit (data_at h.role p) (fixups_with starts image.imports) i.parts.fixups.fit;
@@ -229,8 +231,8 @@ legal_stands image l =
     (slots_held at slots count l.words.cells w.inside l.parts.slots) refl
 
 -- an image of words and bytes is legal exactly where some bytes stand for it
-pub legal_has_bytes : (image : Image) → BesideBytes image → IsLegal image → HasBytes image
-legal_has_bytes image b l = (bytes_of image, (bytes_are_bytes image b l.words.cells, legal_stands image l))
+pub legal_has_bytes : (image : Image) → IsLegal image → HasBytes image
+legal_has_bytes image l = (bytes_of image, (bytes_are_bytes image l.beside l.words.cells, legal_stands image l))
 
 pub has_bytes_legal : (image : Image) → IsBytes image.cells → HasBytes image → IsLegal image
-has_bytes_legal image fits b = image_legal image b.0 fits b.1.1
+has_bytes_legal image fits b = image_legal image b.0 b.1.0 fits b.1.1

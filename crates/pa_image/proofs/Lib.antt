@@ -1,3 +1,4 @@
+pub mod Beside
 pub mod Cut
 pub mod Header
 pub mod Laws

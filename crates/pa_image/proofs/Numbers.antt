@@ -34,11 +34,11 @@ one_more : (x : ℕ) (xs : List ℕ) → x < 256 → AreBytes xs → AreBytes (x
 one_more x xs lt b zero = lt
 one_more x xs lt b (suc i) = b i
 
-both : (xs ys : List ℕ) → AreBytes xs → AreBytes ys → AreBytes (xs ++ ys)
+pub both : (xs ys : List ℕ) → AreBytes xs → AreBytes ys → AreBytes (xs ++ ys)
 both [] ys a b = b
 both (x ∷ xs) ys a b = one_more x (xs ++ ys) (a 0) (both xs ys (λ k. a (suc k)) b)
 
-zeros : (n : ℕ) → AreBytes (replicate n 0)
+pub zeros : (n : ℕ) → AreBytes (replicate n 0)
 zeros zero = nothing
 zeros (suc n) = one_more 0 (replicate n 0) (omega arith) (zeros n)
 
@@ -53,7 +53,7 @@ byte_small (suc i) x = mod_small (x / 256 ^ suc i)
     mod_small : (n : ℕ) → n % 256 < 256
     mod_small n = omega arith
 
-low_bytes : (n i x : ℕ) → AreBytes (bytes_low_first i n x)
+pub low_bytes : (n i x : ℕ) → AreBytes (bytes_low_first i n x)
 low_bytes zero i x = nothing
 low_bytes (suc n) i x = one_more (byte_at i x) (bytes_low_first (suc i) n x) (byte_small i x) (low_bytes n (suc i) x)
 
@@ -67,7 +67,7 @@ names_bytes (name ∷ names) b = both name (0 ∷ ended names) b.0 (one_more 0 (
 
 -- ---- pages
 
-put_bytes : (at : ℕ) (part page : List ℕ) → AreBytes part → AreBytes page → AreBytes (put_at at part page)
+pub put_bytes : (at : ℕ) (part page : List ℕ) → AreBytes part → AreBytes page → AreBytes (put_at at part page)
 put_bytes at part page a b = both (take at page) (part ++ drop (at + length part) page) (IsBytes-take at page b) (both part (drop (at + length part) page) a (IsBytes-drop (at + length part) page b))
 
 slots_bytes : (fixes : List Fix) (page : List ℕ) → AreBytes page → AreBytes (with_slots page fixes)

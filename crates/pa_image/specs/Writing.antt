@@ -45,6 +45,7 @@ pub record PartsFit (image : Image) (h : Header) (p : Places) : Type 0 where
 -- what an image needs to have bytes, part by part
 pub record IsLegal (image : Image) : Type 0 where
   pub words : AreWords image
+  pub beside : BesideBytes image
   pub header : HeaderFits (header_of image)
   pub parts : PartsFit image (header_of image) (places_of (header_of image))
 

@@ -7,7 +7,7 @@ ghost use Rattle.pa_macho.specs.Writing.{HeaderFits};
 ghost use Rattle.pa_image.specs.Bytes as spec;
 ghost use Rattle.pa_image.specs.Bytes.{IsImage, words_bytes};
 ghost use Rattle.pa_image.specs.Writing as written;
-ghost use Rattle.pa_image.specs.Writing.{AreWords, BesideBytes, HasBytes, IsLegal, PartsFit};
+ghost use Rattle.pa_image.specs.Writing.{AreWords, HasBytes, IsLegal, PartsFit};
 
 use crate::image::Image;
 use crate::parts::{data_at, slots_at, text_at};
@@ -40,7 +40,6 @@ fn parts_fit(image: &Image, header: &Header, places: &Places) -> bool
 fn fits(image: &Image) -> bool
     ensures legal { IsTrue result ↔ IsLegal image.now }
     ensures words { AreWords image.now }
-    ensures beside { IsTrue result → BesideBytes image.now }
 {
     if !is_small(image) {
         return false;

@@ -94,7 +94,7 @@ plus-lt address (negsuc n) le lt = omega arith
 
 pointer-lt : (f : Filling) (kind : FixKind) → PointerFits f kind → FieldsFit kind → pointer f kind < 2 ^ 64
 pointer-lt f (Rebase target high8) p k = let a = k.1 in omega arith
-pointer-lt f (Bind ordinal addend) p k = plus-lt (slice_index f.imports ordinal) addend p.1.1 k.2
+pointer-lt f (Bind ordinal addend) p k = let a = p.1.1 in plus-lt (slice_index f.imports ordinal) addend (omega arith) k.2
 pointer-lt f (AuthRebase target sig) p k = let a = k.0 in omega arith
 pointer-lt f (AuthBind ordinal sig) p k = let a = p.1.1 in omega arith
 

@@ -30,7 +30,7 @@ going_first code f fixes first entries spare ready room empty = record {
   log = ap (λ (l : Log). reverse (flat_map (slot_signs code f) fixes) ++ l) empty ∙ append-nil (reverse (flat_map (slot_signs code f) fixes));
 }
 
-one_signed : (code : Code) (sig : Option Sig) (at raw : ℕ) → reverse (signed code sig at raw) ≡ signed code sig at raw
+pub one_signed : (code : Code) (sig : Option Sig) (at raw : ℕ) → reverse (signed code sig at raw) ≡ signed code sig at raw
 one_signed code None at raw = refl
 one_signed code (Some sig) at raw = refl
 

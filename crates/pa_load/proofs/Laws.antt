@@ -1,5 +1,6 @@
 -- The laws of a loaded state.
-use Rattle.std.proofs.Common.{◌≡◌, ℕ, ◌+◌, ◌-◌, ◌*◌, ◌%◌, ◌≤◌, ◌<◌, true, List, [], ◌∷◌, ◌++◌, length, refl, sym, ap, subst, ◌∙◌, arith, Option, Some, None, ◌⊎◌, inl, inr}
+use Rattle.std.proofs.Common.{◌≡◌, ℕ, ◌+◌, ◌-◌, ◌*◌, ◌%◌, ◌≤◌, ◌<◌, true, List, [], ◌∷◌, ◌++◌, length, get_or, zero-add, refl, sym, ap, subst, ◌∙◌, arith, Option, Some, None, ◌⊎◌, inl, inr}
+use Rattle.std.specs.Prelude.{All}
 use Rattle.std.specs.Option.{option_or}
 use Rattle.pa_layout.specs.Fields.{number}
 use Rattle.pa_pac.specs.Signing.{Code}
@@ -9,23 +10,29 @@ use Rattle.pa_macho.specs.declared.header.Role.TheVariants.{Library}
 use Rattle.pa_macho.specs.Layout.{places_of}
 use Rattle.pa_macho.proofs.Facts.{spans}
 use Rattle.pa_fixups.specs.declared.kind.Fix.{Fix}
-use Rattle.pa_mem.specs.Memory.{Region, Right, Read, Write, has, allowed, load, fetch, all_apart, write_xor_run, region_of}
+use Rattle.pa_mem.specs.Memory.{Region, Right, Read, Write, has, allowed, byte_at, load, fetch, all_apart, write_xor_run, region_of}
 use Rattle.pa_mem.proofs.Apart as mem
 use Rattle.pa_image.specs.declared.image.Image.{Image}
 use Rattle.pa_image.specs.Bytes.{header_of, part, slots_at}
 use Rattle.pa_image.specs.Places.{base_at, mapped, text_base, code_areas, word_from, word_of}
 use Rattle.pa_image.specs.Small.{IsSmall}
 use Rattle.pa_image.specs.Writing.{IsLegal, bytes_of}
+use Rattle.pa_image.proofs.Header.{cells_place}
 use Rattle.pa_image.proofs.Laws.{legal_stands}
 use Rattle.pa_load.specs.Filling.{slot_address, slot_value, filled}
 use Rattle.pa_load.specs.Loaded.{State, IsLoaded, filling, stack, stack_base, stack_size, text_rights, data_rights, padded, loaded, both}
+use Rattle.pa_slots.specs.Pages.{cells_from}
+use Rattle.pa_slots.specs.Slots.{slots_with}
 use Rattle.pa_slots.specs.Writing.{EachFits}
+use Rattle.pa_slots.proofs.Beside.{Outside, cells_beside}
 use Rattle.pa_load.specs.Ready.{AllReady}
+use Rattle.pa_load.proofs.Contents.{byte_here, byte_in_part, byte_that_stands, filled_outside}
 use Rattle.pa_load.proofs.Fetched.{area_fetched, or_some}
 use Rattle.pa_load.proofs.Filled.{Spaced, length-filled, slot_held, slot_inside, slot_value-lt}
 use Rattle.pa_load.proofs.Regions.{Ascending, ascending_apart, allowed_here, load_here}
+use Rattle.pa_load.proofs.Signs.{IsLoadSign, log_signs_low}
 use Rattle.pa_load.proofs.Slots.{fillable, fields_fit, pointer_ready}
-use Rattle.pa_load.proofs.Whole.{length-blank, length-bytes_of, sized}
+use Rattle.pa_load.proofs.Whole.{others_are, length-blank, length-bytes_of, sized}
 
 -- both images have bytes, and these are few
 pub record AreLoadable (main runtime : Image) : Type 0 where
@@ -40,19 +47,19 @@ one_loaded code main runtime slide state other i j = i.state_is ∙ sym j.state_
 
 -- ---- where things lie
 
-record Bases (main runtime : Image) (slide : ℕ) : Type 0 where
+pub record Bases (main runtime : Image) (slide : ℕ) : Type 0 where
   pub main_base : base_at main.role slide ≡ 0x100000000 + 0x4000 * slide
   pub runtime_base : base_at runtime.role 0 ≡ 0x180000000
 
-bases : (code : Code) (main runtime : Image) (slide : ℕ) (state : State) → IsLoaded code main runtime slide state → Bases main runtime slide
+pub bases : (code : Code) (main runtime : Image) (slide : ℕ) (state : State) → IsLoaded code main runtime slide state → Bases main runtime slide
 bases code main runtime slide state i = record { main_base = ap (λ (r : Role). base_at r slide) i.program; runtime_base = ap (λ (r : Role). base_at r 0) i.library }
 
 -- the bytes of __DATA with its slots filled
-abbrev contents_of : Code → Image → Image → ℕ → List ℕ
+abbrev pub contents_of : Code → Image → Image → ℕ → List ℕ
 contents_of code main runtime slide =
     let p = places_of (header_of main) in filled code (filling main runtime slide) main.fixes (part p.got p.linkedit (bytes_of main))
 
-length-contents_of : (code : Code) (main runtime : Image) (slide : ℕ) (state : State) → AreLoadable main runtime → IsLoaded code main runtime slide state → length (contents_of code main runtime slide) ≡ (places_of (header_of main)).linkedit - (places_of (header_of main)).got
+pub length-contents_of : (code : Code) (main runtime : Image) (slide : ℕ) (state : State) → AreLoadable main runtime → IsLoaded code main runtime slide state → length (contents_of code main runtime slide) ≡ (places_of (header_of main)).linkedit - (places_of (header_of main)).got
 length-contents_of code main runtime slide state l i =
     let p = places_of (header_of main) in
     let z = sized main l.main_legal in
@@ -82,10 +89,10 @@ ascending code main runtime slide state l i =
     let s = length-blank stack_size in
     (omega arith, (omega arith, (omega arith, (omega arith, (omega arith, (omega arith, (omega arith, tt)))))))
 
-memory_apart : (code : Code) (main runtime : Image) (slide : ℕ) (state : State) → AreLoadable main runtime → IsLoaded code main runtime slide state → all_apart (loaded code main runtime slide).memory ≡ true
+pub memory_apart : (code : Code) (main runtime : Image) (slide : ℕ) (state : State) → AreLoadable main runtime → IsLoaded code main runtime slide state → all_apart (loaded code main runtime slide).memory ≡ true
 memory_apart code main runtime slide state l i = ascending_apart 0 (loaded code main runtime slide).memory (ascending code main runtime slide state l i)
 
-memory_of_state : (code : Code) (main runtime : Image) (slide : ℕ) (state : State) → IsLoaded code main runtime slide state → state.memory ≡ (loaded code main runtime slide).memory
+pub memory_of_state : (code : Code) (main runtime : Image) (slide : ℕ) (state : State) → IsLoaded code main runtime slide state → state.memory ≡ (loaded code main runtime slide).memory
 memory_of_state code main runtime slide state i = ap (λ (s : State). s.memory) i.state_is
 
 -- no two regions overlap
@@ -99,19 +106,19 @@ written_or_run code main runtime slide state i = ap write_xor_run (memory_of_sta
 
 -- ---- the regions
 
-main_text : (code : Code) (main runtime : Image) (slide : ℕ) → mem.IsAt (loaded code main runtime slide).memory 0 (region_of (base_at main.role slide) (part 0 (places_of (header_of main)).got (bytes_of main)) text_rights)
+pub main_text : (code : Code) (main runtime : Image) (slide : ℕ) → mem.IsAt (loaded code main runtime slide).memory 0 (region_of (base_at main.role slide) (part 0 (places_of (header_of main)).got (bytes_of main)) text_rights)
 unfolding loaded
 main_text code main runtime slide = record { within = omega arith; found = refl }
 
-main_data : (code : Code) (main runtime : Image) (slide : ℕ) → mem.IsAt (loaded code main runtime slide).memory 1 (region_of (base_at main.role slide + (places_of (header_of main)).got) (contents_of code main runtime slide) data_rights)
+pub main_data : (code : Code) (main runtime : Image) (slide : ℕ) → mem.IsAt (loaded code main runtime slide).memory 1 (region_of (base_at main.role slide + (places_of (header_of main)).got) (contents_of code main runtime slide) data_rights)
 unfolding loaded
 main_data code main runtime slide = record { within = omega arith; found = refl }
 
-the_stack : (code : Code) (main runtime : Image) (slide : ℕ) → mem.IsAt (loaded code main runtime slide).memory 3 stack
+pub the_stack : (code : Code) (main runtime : Image) (slide : ℕ) → mem.IsAt (loaded code main runtime slide).memory 3 stack
 unfolding loaded
 the_stack code main runtime slide = record { within = omega arith; found = refl }
 
-runtime_text : (code : Code) (main runtime : Image) (slide : ℕ) → mem.IsAt (loaded code main runtime slide).memory 4 (region_of (base_at runtime.role 0) (part 0 (places_of (header_of runtime)).got (bytes_of runtime)) text_rights)
+pub runtime_text : (code : Code) (main runtime : Image) (slide : ℕ) → mem.IsAt (loaded code main runtime slide).memory 4 (region_of (base_at runtime.role 0) (part 0 (places_of (header_of runtime)).got (bytes_of runtime)) text_rights)
 unfolding loaded
 runtime_text code main runtime slide = record { within = omega arith; found = refl }
 
@@ -153,6 +160,70 @@ slot_loaded code main runtime slide state l i before fix after e =
           ∙ allowed_here Read memory 1 region (slot_address f fix) 8 here (omega arith) (omega arith) refl,
       ap (λ (m : List Region). allowed Write m (slot_address f fix) 8) same
           ∙ allowed_here Write memory 1 region (slot_address f fix) 8 here (omega arith) (omega arith) refl,
+    )
+
+-- the log is of signatures of loading, each of a canonical address
+pub signs_of_loading : (code : Code) (main runtime : Image) (slide : ℕ) (state : State) → AreLoadable main runtime → IsLoaded code main runtime slide state → All IsLoadSign state.log
+signs_of_loading code main runtime slide state l i =
+    let p = places_of (header_of main) in
+    let slots = fillable main runtime slide (p.linkedit - p.got) l.main_legal l.main_small i.program i.slide_fits l.runtime_legal l.runtime_small i.found refl in
+    subst (All IsLoadSign) (sym (ap (λ (s : State). s.log) i.state_is ∙ (others_are code main runtime slide).0)) (log_signs_low code (filling main runtime slide) (p.linkedit - p.got) main.fixes slots.ready)
+
+-- ---- constants and data
+
+-- a byte of __const is in memory, and may be read
+pub constant_loaded : (code : Code) (main runtime : Image) (slide : ℕ) (state : State) → AreLoadable main runtime → IsLoaded code main runtime slide state → (k : ℕ) → k < length main.consts
+    → (byte_at state.memory (base_at main.role slide + (places_of (header_of main)).consts + k) ≡ get_or main.consts k 0) × (allowed Read state.memory (base_at main.role slide + (places_of (header_of main)).consts + k) 1 ≡ true)
+constant_loaded code main runtime slide state l i k lt =
+    let p = places_of (header_of main) in
+    let bytes = bytes_of main in
+    let memory = (loaded code main runtime slide).memory in
+    let region = region_of (base_at main.role slide) (part 0 p.got bytes) text_rights in
+    let at = base_at main.role slide + p.consts + k in
+    let z = sized main l.main_legal in
+    let o = z.order in
+    let size : length (part 0 p.got bytes) ≡ p.got = z.text in
+    let stands = legal_stands main l.main_legal in
+    let s = spans (header_of main) in
+    let e : (header_of main).consts ≡ length main.consts = sym stands.parts.consts_size in
+    let ends = s.consts in
+    let here = main_text code main runtime slide in
+    let same = memory_of_state code main runtime slide state i in (
+      ap (λ (m : List Region). byte_at m at) same ∙ byte_here memory 0 region at (p.consts + k) here (memory_apart code main runtime slide state l i) (omega arith) (omega arith)
+          ∙ byte_in_part 0 p.got (p.consts + k) bytes (omega arith) ∙ ap (λ (n : ℕ). get_or bytes n 0) (zero-add (p.consts + k)) ∙ byte_that_stands p.consts k bytes main.consts stands.parts.consts lt,
+      ap (λ (m : List Region). allowed Read m at 1) same ∙ allowed_here Read memory 0 region at 1 here (omega arith) (omega arith) refl,
+    )
+
+-- a byte of __data that is in no slot is in memory, and may be read and written
+pub datum_loaded : (code : Code) (main runtime : Image) (slide : ℕ) (state : State) → AreLoadable main runtime → IsLoaded code main runtime slide state → (k : ℕ) → k < length main.cells
+    → Outside (cells_from (slots_at (header_of main) (places_of (header_of main)) (length main.imports)) + k) main.fixes
+    → (byte_at state.memory (base_at main.role slide + (places_of (header_of main)).cells + k) ≡ get_or main.cells k 0) × (allowed Read state.memory (base_at main.role slide + (places_of (header_of main)).cells + k) 1 ≡ true) × (allowed Write state.memory (base_at main.role slide + (places_of (header_of main)).cells + k) 1 ≡ true)
+datum_loaded code main runtime slide state l i k lt outside =
+    let p = places_of (header_of main) in
+    let f = filling main runtime slide in
+    let at = slots_at (header_of main) p (length main.imports) in
+    let contents = part p.got p.linkedit (bytes_of main) in
+    let memory = (loaded code main runtime slide).memory in
+    let region = region_of (base_at main.role slide + p.got) (contents_of code main runtime slide) data_rights in
+    let place = base_at main.role slide + p.cells + k in
+    let z = sized main l.main_legal in
+    let o = z.order in
+    let size : length contents ≡ p.linkedit - p.got = z.contents in
+    let len = length-contents_of code main runtime slide state l i in
+    let slots = fillable main runtime slide (p.linkedit - p.got) l.main_legal l.main_small i.program i.slide_fits l.runtime_legal l.runtime_small i.found refl in
+    let spaced = subst (λ (n : ℕ). Spaced 0 n main.fixes) (sym size) slots.spaced in
+    let stands = (legal_stands main l.main_legal).parts.slots in
+    let s = spans (header_of main) in
+    let cells : length main.cells ≡ (header_of main).cells = stands.cells in
+    let from : p.cells ≡ p.got + cells_from at = cells_place (header_of main) in
+    let ends = s.cells in
+    let here = main_data code main runtime slide in
+    let same = memory_of_state code main runtime slide state i in (
+      ap (λ (m : List Region). byte_at m place) same ∙ byte_here memory 1 region place (cells_from at + k) here (memory_apart code main runtime slide state l i) (omega arith) (omega arith)
+          ∙ filled_outside code f main.fixes contents 0 (cells_from at + k) spaced outside
+          ∙ cells_beside at (legal_stands main l.main_legal).parts.starts (slots_with main.cells main.fixes) contents k stands lt outside,
+      ap (λ (m : List Region). allowed Read m place 1) same ∙ allowed_here Read memory 1 region place 1 here (omega arith) (omega arith) refl,
+      ap (λ (m : List Region). allowed Write m place 1) same ∙ allowed_here Write memory 1 region place 1 here (omega arith) (omega arith) refl,
     )
 
 -- ---- code

@@ -1,9 +1,13 @@
+pub mod Contents
 pub mod Fetched
 pub mod Filled
 pub mod Going
 pub mod Imports
 pub mod Kept
+pub mod Known
 pub mod Laws
 pub mod Regions
+pub mod Signs
 pub mod Slots
+pub mod State
 pub mod Whole

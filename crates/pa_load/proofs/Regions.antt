@@ -52,7 +52,7 @@ ascending_apart low (region ∷ regions) a =
 
 -- ---- reading in a region
 
-or_right : (a b : Bool) → b ≡ true → (a || b) ≡ true
+pub or_right : (a b : Bool) → b ≡ true → (a || b) ≡ true
 or_right true b e = refl
 or_right false b e = e
 

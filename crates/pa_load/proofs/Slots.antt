@@ -150,6 +150,7 @@ pointer_fits main runtime slide at (Bind ordinal addend) page role s legal small
     (omega arith, import_far runtime (get_or main.imports ordinal []) (slice_index (import_addresses main runtime) ordinal) legal small (import_found main runtime ordinal found (omega arith)))
 pointer_fits main runtime slide at (AuthRebase target sig) page role s legal small found base size imports o t =
     let b : base_of main.role ≡ base_of Main = ap base_of role in
+    let lt : target < at.size = ltb-true target at.size t in
     omega arith
 pointer_fits main runtime slide at (AuthBind ordinal sig) page role s legal small found base size imports o t =
     let lt : ordinal < at.imports = ltb-true ordinal at.imports o in

@@ -5,14 +5,14 @@ use Rattle.pa_fixups.specs.declared.kind.FixKind.{FixKind}
 use Rattle.pa_fixups.specs.declared.kind.FixKind.TheVariants.{Rebase, Bind, AuthRebase, AuthBind}
 use Rattle.pa_load.specs.Filling.{Filling}
 
--- a function of the runtime image: an addend of 32 bits neither passes 0 nor wraps
+-- a function of the runtime image: it is canonical, and an addend of 32 bits neither passes 0 nor wraps
 abbrev pub IsFarAddress : ℕ → Type 0
-IsFarAddress address = (2 ^ 31 ≤ address) × (address < 2 ^ 63)
+IsFarAddress address = (2 ^ 31 ≤ address) × (address < 2 ^ 47)
 
 abbrev pub PointerFits : Filling → FixKind → Type 0
 PointerFits f (Rebase target high8) = target + f.shift < 2 ^ 56
 PointerFits f (Bind ordinal addend) = (ordinal < length f.imports) × IsFarAddress (slice_index f.imports ordinal)
-PointerFits f (AuthRebase target sig) = f.base < 2 ^ 63
+PointerFits f (AuthRebase target sig) = f.base + target < 2 ^ 47
 PointerFits f (AuthBind ordinal sig) = (ordinal < length f.imports) × IsFarAddress (slice_index f.imports ordinal)
 
 -- in __DATA of that many bytes

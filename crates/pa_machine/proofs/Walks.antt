@@ -9,7 +9,7 @@ use Rattle.pa_object.specs.declared.script.Deed.TheVariants as deed
 use Rattle.pa_object.specs.declared.script.Item.{Item}
 use Rattle.pa_object.specs.Machine.{Machine}
 use Rattle.pa_object.specs.Run.{applied, applied_all, done_to}
-use Rattle.pa_object.specs.Script.{deed_fits, all_fit, size_of_deed, copy_is_short, is_line, all_lines, ordered_from, is_script}
+use Rattle.pa_object.specs.Script.{deed_fits, all_fit, size_of_deed, copy_is_short, writes_bytes, is_line, all_lines, ordered_from, is_script}
 use Rattle.pa_object.proofs.Growth.{outlines-deed, all_fit-outlines, applied_all-before}
 use Rattle.pa_machine.specs.Items.{IsRest}
 use Rattle.pa_machine.specs.Running.{Running}
@@ -30,7 +30,9 @@ all_lines-rest item items h = (and_parts (is_line item) (all_lines items) h).1
 
 -- a line copies no more than a copy may
 line-short : (item : Item) → is_line item ≡ true → copy_is_short item.deed ≡ true
-line-short item h = short item.deed (and_parts (leb 1 (size_of_deed item.deed)) (leb (size_of_deed item.deed) 4096) h).1
+line-short item h =
+    let sizes = and_parts (leb 1 (size_of_deed item.deed)) (leb (size_of_deed item.deed) 4096 && writes_bytes item.deed) h in
+    short item.deed (and_parts (leb (size_of_deed item.deed) 4096) (writes_bytes item.deed) sizes.1).0
   where
     short : (d : Deed) → leb (size_of_deed d) 4096 ≡ true → copy_is_short d ≡ true
     short (deed.Write at bytes) h = refl

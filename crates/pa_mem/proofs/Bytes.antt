@@ -3,7 +3,7 @@ use Rattle.std.proofs.Common.{◌≡◌, ◌≢◌, ℕ, zero, suc, ◌+◌, ◌
 use Rattle.std.specs.Prelude.{Bool, true, false, cond, ◌&&◌, ◌||◌, leb}
 use Rattle.std.proofs.lemmas.Bool.{leb-true, ltb-true, le-leb, lt-ltb, and_parts, and_from, or_cases, or_left, or_right, true≢false}
 use Rattle.pa_mem.specs.declared.access.Rights.{Rights}
-use Rattle.pa_mem.specs.Memory.{Region, Right, Read, Write, Run, has, holds, allowed, inside, byte_at, with_byte, with_bytes, apart_from_all, all_apart, write_xor_run}
+use Rattle.pa_mem.specs.Memory.{Region, Right, Read, Write, Run, has, holds, allowed, inside, byte_at, with_byte, with_bytes, apart_from_all, all_apart, write_xor_run, AreBytes, IsBytes}
 
 -- some region has this address
 unfoldable pub covered : List Region → ℕ → Bool
@@ -21,14 +21,6 @@ pub record Outline : Type 0 where
 abbrev pub outline : Region → Outline
 outline region =
     record { base = region.base; size = length region.bytes; reads = region.reads; writes = region.writes; runs = region.runs }
-
--- each byte is a number below 256
-abbrev pub AreBytes : List ℕ → Type 0
-AreBytes bytes = (i : ℕ) → get_or bytes i 0 < 256
-
-abbrev pub IsBytes : List Region → Type 0
-IsBytes [] = Unit {0}
-IsBytes (region ∷ regions) = AreBytes region.bytes × IsBytes regions
 
 -- a region with one byte changed
 abbrev pub put : Region → ℕ → ℕ → Region

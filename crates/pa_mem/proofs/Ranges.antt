@@ -7,8 +7,8 @@ use Rattle.std.specs.Int.{bytes_low_first, byte_at as digit}
 use Rattle.std.proofs.Math.Nat.{pow-suc, pow-succ', one-le-pow, mod-lt, div-div-eq-div-mul}
 use Rattle.std.proofs.Math.Arith.{mod-mul}
 use Rattle.pa_mem.specs.declared.access.Rights.{Rights}
-use Rattle.pa_mem.specs.Memory.{Region, Right, Run, allowed, inside, byte_at, with_byte, bytes_at, with_bytes, load, store, fetch, all_apart, write_xor_run}
-use Rattle.pa_mem.proofs.Bytes.{covered, outline, AreBytes, IsBytes, covered-with_byte, allowed-covered, byte_at-with_byte-same, byte_at-with_byte-other, allowed-with_bytes, inside-with_bytes, covered-with_bytes, outlines-with_bytes, write_xor_run-with_bytes, all_apart-with_bytes, IsBytes-with_bytes, byte_at-lt}
+use Rattle.pa_mem.specs.Memory.{Region, Right, Run, allowed, inside, byte_at, with_byte, bytes_at, with_bytes, load, store, fetch, all_apart, write_xor_run, AreBytes, IsBytes}
+use Rattle.pa_mem.proofs.Bytes.{covered, outline, covered-with_byte, allowed-covered, byte_at-with_byte-same, byte_at-with_byte-other, allowed-with_bytes, inside-with_bytes, covered-with_bytes, outlines-with_bytes, write_xor_run-with_bytes, all_apart-with_bytes, IsBytes-with_bytes, byte_at-lt}
 use Rattle.pa_mem.proofs.Numbers.{store-with_bytes, length-bytes_low_first}
 
 -- equal bytes

@@ -1,5 +1,5 @@
 -- Memory: a list of regions, read and written by address, the lowest byte of a number first.
-use Rattle.std.specs.Prelude.{ℕ, zero, suc, ◌+◌, ◌-◌, ◌*◌, ◌/◌, ◌%◌, min, max, List, [], ◌∷◌, length, slice_index, slice_set, Bool, true, false, not, ◌&&◌, ◌||◌, nat_le, nat_lt, ◌==◌, if◌then◌else◌, Option, Some, None}
+use Rattle.std.specs.Prelude.{ℕ, zero, suc, ◌+◌, ◌-◌, ◌*◌, ◌/◌, ◌%◌, ◌<◌, min, max, List, [], ◌∷◌, length, slice_index, slice_set, Bool, true, false, not, ◌&&◌, ◌||◌, nat_le, nat_lt, ◌==◌, if◌then◌else◌, Option, Some, None}
 use Rattle.std.specs.List.{list_any}
 use Rattle.pa_mem.specs.declared.access.Rights.{Rights}
 use Rattle.pa_mem.specs.Access.{includes}
@@ -103,3 +103,12 @@ write_xor_run (region ∷ regions) = not (region.writes && region.runs) && write
 abbrev pub region_of : ℕ → List ℕ → Rights → Region
 region_of base bytes rights =
     record { base = base; bytes = bytes; reads = rights.read; writes = rights.write; runs = rights.run }
+
+-- each is a number below 256
+abbrev pub AreBytes : List ℕ → Type 0
+AreBytes bytes = (i : ℕ) → slice_index bytes i < 256
+
+-- what stands in the regions is of bytes
+abbrev pub IsBytes : List Region → Type 0
+IsBytes [] = Unit {0}
+IsBytes (region ∷ regions) = AreBytes region.bytes × IsBytes regions

@@ -78,10 +78,10 @@ module _ (x y : ℕ) (xh : x < 2 ^ 64) (yh : y < 2 ^ 64) where
 
 -- ---- the integers that numbers stand for
 
-cast_low : (x : ℕ) → x < 2 ^ 63 → cast_signed w64 x ≡ pos x
+pub cast_low : (x : ℕ) → x < 2 ^ 63 → cast_signed w64 x ≡ pos x
 cast_low x h = rw (lt-ltb x (2 ^ 63) h) refl
 
-cast_high : (x : ℕ) → 2 ^ 63 ≤ x → cast_signed w64 x ≡ negsuc (2 ^ 64 - suc x)
+pub cast_high : (x : ℕ) → 2 ^ 63 ≤ x → cast_signed w64 x ≡ negsuc (2 ^ 64 - suc x)
 cast_high x h = rw (le-ltb x (2 ^ 63) h) refl
 
 -- a number without a sign, less one with it

@@ -4,9 +4,12 @@ pub mod Filled
 pub mod Growth
 pub mod Linked
 pub mod Marked
+pub mod Numbers
 pub mod Placed
+pub mod Remainder
 pub mod Rounding
 pub mod Rows
+pub mod Scripts
 pub mod Shapes
 pub mod Stepping
 pub mod Steps
@@ -19,4 +22,5 @@ pub mod StepsSigning
 pub mod Stub
 pub mod Watching
 pub mod Wide
+pub mod Widths
 pub mod Worked

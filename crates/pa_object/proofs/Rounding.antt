@@ -1,8 +1,8 @@
 -- What pairs and special cases of computing rows give: remainders, extensions, shifts, and constants made of parts.
-use Rattle.std.proofs.Common.{◌≡◌, ◌≢◌, ℕ, suc, ◌+◌, ◌-◌, ◌*◌, ◌/◌, ◌%◌, ◌^◌, ◌<◌, ◌≤◌, true, false, refl, sym, ap, ◌∙◌, arith}
+use Rattle.std.proofs.Common.{◌≡◌, ◌≢◌, ℕ, suc, ◌+◌, ◌-◌, ◌*◌, ◌/◌, ◌%◌, ◌^◌, ◌<◌, ◌≤◌, refl, sym, ap, subst, ◌∙◌, arith}
 use Rattle.std.proofs.lemmas.Bool.{ne_eqb, lt-leb, le-leb}
-use Rattle.std.proofs.lemmas.Nat.{pow_pos, pow-add, mod_below}
-use Rattle.std.proofs.Math.Nat.{div-eq_of_lt, mod-eq_of_lt, mod-eq-sub-div-mul, div-mul-le_self, div-le_self}
+use Rattle.std.proofs.lemmas.Nat.{pow_pos, pow-add}
+use Rattle.std.proofs.Math.Nat.{div-eq_of_lt, mod-eq_of_lt, mod-eq-sub-div-mul, div-mul-le_self, div-lt_iff_lt-mul}
 use Rattle.pa_num.specs.Arithmetic.{wrap, sub64, mul64, udiv64, with_part}
 use Rattle.pa_num.specs.Bits.{sign_extended, truncated}
 use Rattle.pa_a64.specs.declared.instr.BitfieldOp.TheVariants.{Sbfm, Ubfm}
@@ -44,3 +44,32 @@ part_above x hw part h =
     let none : x / 2 ^ (16 * hw + 16) ≡ 0 = div-eq_of_lt (omega arith) in
     let all : x % 2 ^ (16 * hw) ≡ x = mod-eq_of_lt h in
     rw (none, all) (omega arith)
+
+-- MOVZ and three MOVK: any number of 64 bits
+pub four_parts : (n : ℕ) → n < 2 ^ 64
+    → with_part (with_part (with_part (n % 2 ^ 16 * 2 ^ (16 * 0)) 1 (n / 2 ^ 16 % 2 ^ 16)) 2 (n / 2 ^ 32 % 2 ^ 16)) 3 (n / 2 ^ 48) ≡ n
+four_parts n h =
+    let one : with_part (n % 2 ^ 16 * 2 ^ (16 * 0)) 1 (n / 2 ^ 16 % 2 ^ 16) ≡ n % 2 ^ 32 = part_above (n % 2 ^ 16 * 2 ^ (16 * 0)) 1 (n / 2 ^ 16 % 2 ^ 16) (omega arith) ∙ omega arith in
+    let two : with_part (n % 2 ^ 32) 2 (n / 2 ^ 32 % 2 ^ 16) ≡ n % 2 ^ 48 = part_above (n % 2 ^ 32) 2 (n / 2 ^ 32 % 2 ^ 16) (omega arith) ∙ omega arith in
+    let three : with_part (n % 2 ^ 48) 3 (n / 2 ^ 48) ≡ n = part_above (n % 2 ^ 48) 3 (n / 2 ^ 48) (omega arith) ∙ omega arith in
+    ap (λ x. with_part (with_part x 2 (n / 2 ^ 32 % 2 ^ 16)) 3 (n / 2 ^ 48)) one ∙ ap (λ x. with_part x 3 (n / 2 ^ 48)) two ∙ three
+
+-- ---- shifts by a constant
+
+-- UBFM up to bit 63: a shift to the right
+pub shifted_right : (value amount : ℕ) → amount < 64 → value < 2 ^ 64 → bitfield Ubfm value amount 63 ≡ value / 2 ^ amount
+unfolding bitfield
+shifted_right value amount low h =
+    let bits : 63 - amount + 1 ≡ 64 - amount = omega arith in
+    let whole : 64 - amount + amount ≡ 64 = omega arith in
+    let power : 2 ^ 64 ≡ 2 ^ (64 - amount) * 2 ^ amount = ap (λ z. 2 ^ z) (sym whole) ∙ pow-add 2 (64 - amount) amount in
+    let fits : value / 2 ^ amount < 2 ^ (64 - amount) = (div-lt_iff_lt-mul (pow_pos amount)).1 (subst (λ z. value < z) power h) in
+    rw (le-leb amount 63 (omega arith), bits, mod-eq_of_lt fits) refl
+
+-- UBFM from a bit above its last: a shift to the left
+pub shifted_left : (value amount : ℕ) → 0 < amount → amount < 64 → bitfield Ubfm value (64 - amount) (63 - amount) ≡ wrap (value % 2 ^ (64 - amount) * 2 ^ amount)
+unfolding bitfield
+shifted_left value amount some low =
+    let bits : 63 - amount + 1 ≡ 64 - amount = omega arith in
+    let back : 64 - (64 - amount) ≡ amount = omega arith in
+    rw (lt-leb (64 - amount) (63 - amount) (omega arith), bits, back) refl

@@ -10,3 +10,4 @@ pub mod Script
 pub mod Shape
 pub mod Stub
 pub mod Traps
+pub mod Widths

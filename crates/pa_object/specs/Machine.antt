@@ -25,7 +25,8 @@ pub record Machine : Type 0 where
   pub log : Log
   pub ended : Option End
 
--- a machine before its first instruction: zeros in all registers and flags, and the whole input left
+-- a machine before its first instruction: zeros in all registers and flags, and the whole input left; that the input is of
+-- bytes is a premise where a theorem needs it
 abbrev pub begun : (memory : List Region) (log : Log) (pc sp : ℕ) (input : List ℕ) → Machine
 begun memory log pc sp input = record {
   registers = replicate 31 0;

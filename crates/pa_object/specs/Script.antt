@@ -1,5 +1,6 @@
 -- What the second writer may do.
-use Rattle.std.specs.Prelude.{ℕ, Bool, true, ◌&&◌, nat_le, List, [], ◌∷◌, length}
+use Rattle.std.specs.Prelude.{ℕ, Bool, true, ◌&&◌, nat_le, nat_lt, List, [], ◌∷◌, length}
+use Rattle.std.specs.List.{list_all}
 use Rattle.pa_mem.specs.Memory.{Region, Read, Write, allowed}
 use Rattle.pa_object.specs.declared.script.Deed.{Deed}
 use Rattle.pa_object.specs.declared.script.Deed.TheVariants as deed
@@ -25,9 +26,19 @@ abbrev pub copy_is_short : Deed → Bool
 copy_is_short (deed.Write at bytes) = true
 copy_is_short (deed.Copy to from count) = nat_le count 4096
 
+-- each is a number below 256
+abbrev pub are_bytes : List ℕ → Bool
+are_bytes bytes = list_all (λ byte. nat_lt byte 256) bytes
+
+-- what is written is of bytes
+abbrev pub writes_bytes : Deed → Bool
+writes_bytes (deed.Write at bytes) = are_bytes bytes
+writes_bytes (deed.Copy to from count) = true
+
 -- a line writes or copies 1 to 4,096 bytes
 abbrev pub is_line : Item → Bool
-is_line item = nat_le 1 (size_of_deed item.deed) && nat_le (size_of_deed item.deed) 4096
+is_line item =
+    nat_le 1 (size_of_deed item.deed) && (nat_le (size_of_deed item.deed) 4096 && writes_bytes item.deed)
 
 abbrev pub all_lines : List Item → Bool
 all_lines [] = true

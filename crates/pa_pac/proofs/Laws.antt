@@ -97,8 +97,8 @@ auth-some code key modifier value raw e =
 pub auth-lt : (code : Code) (key : Key) (modifier value raw : ℕ) → auth code key modifier value ≡ Some raw → raw < 2 ^ 64
 auth-lt code key modifier value raw e = omega (arith, canonical-lt raw, (auth-some code key modifier value raw e).0)
 
-pub generic_code-lt : (code : Code) (pointer modifier : ℕ) → code GA pointer modifier < 2 ^ 64 → generic_code code pointer modifier < 2 ^ 64
-generic_code-lt code pointer modifier h = omega arith
+pub generic_code-lt : (code : Code) (pointer modifier : ℕ) → generic_code code pointer modifier < 2 ^ 64
+generic_code-lt code pointer modifier = omega arith
 
 -- ---- modifiers
 

@@ -30,6 +30,7 @@ accepted raw = if raw == canonical raw then Some raw else None
 abbrev pub auth : Code → Key → ℕ → ℕ → Option ℕ
 auth code key modifier value = accepted (covered code key modifier value)
 
--- the authentication code of data under the generic key: the upper half of the code, with zeros below
+-- the authentication code of data under the generic key: the upper half of the code, which is a number of 64 bits, with
+-- zeros below
 abbrev pub generic_code : Code → ℕ → ℕ → ℕ
-generic_code code pointer modifier = code GA pointer modifier / 2 ^ 32 * 2 ^ 32
+generic_code code pointer modifier = code GA pointer modifier % 2 ^ 64 / 2 ^ 32 * 2 ^ 32

@@ -6,7 +6,7 @@ use Rattle.pa_object.specs.declared.end.End.{End}
 use Rattle.pa_object.specs.Run.{end_of}
 use Rattle.pa_straight.specs.declared.source.Straight.{Straight}
 use Rattle.pa_engine.specs.Report.{report_text}
-use Rattle.pa_pal.specs.Pal.{pal}
+use Rattle.pa_image.specs.Pal.{pal}
 use Rattle.pa_load.specs.Loaded.{loaded}
 use Rattle.pa_paclab.specs.Answers.{Accepts, IsReport, IsRunOf, run_of}
 

@@ -12,7 +12,7 @@ use Rattle.pa_straight.specs.Source.{IsTextOf, IsNoText}
 use Rattle.pa_image.specs.declared.image.Image.{Image}
 use Rattle.pa_image.specs.Small.{IsSmall}
 use Rattle.pa_image.specs.Writing.{IsLegal}
-use Rattle.pa_pal.specs.Pal.{pal}
+use Rattle.pa_image.specs.Pal.{pal}
 use Rattle.pa_load.specs.Loaded.{State, loaded, begun_in}
 use Rattle.pa_straight_image.specs.Image.{image_of}
 use Rattle.pa_straight_image.specs.Shows.{Runs}

@@ -1,7 +1,7 @@
 ghost use Rattle.std.specs.Prelude.{◌≡◌, IfOk};
 ghost use Rattle.pa_image.specs.declared.image.Image as declared;
 ghost use Rattle.pa_image.specs.Bytes.{IsImage};
-ghost use Rattle.pa_pal.specs.Pal.{pal};
+ghost use Rattle.pa_image.specs.Pal.{pal};
 ghost use Rattle.pa_load.specs.Loaded.{IsLoaded, state_of};
 ghost use Rattle.pa_straight.specs.Source.{IsSource};
 ghost use Rattle.pa_straight_image.specs.Image.{image_of};

@@ -23,8 +23,9 @@ use Rattle.pa_symbols.proofs.Distinct.{no_names}
 use Rattle.pa_image.specs.Bytes.{header_of, data_at, text_at}
 use Rattle.pa_image.specs.Places.{exported}
 use Rattle.pa_image.specs.Small.{IsSmall}
-use Rattle.pa_image.specs.Writing.{AreWords, PartsFit, IsLegal}
-use Rattle.pa_pal.specs.Pal.{pal, marks, exports}
+use Rattle.pa_image.specs.Pal.{pal, marks, exports}
+use Rattle.pa_image.specs.Writing.{AreWords, BesideBytes, PartsFit, IsLegal}
+use Rattle.pa_image.proofs.Beside.{tested}
 
 -- ---- the header and the places
 
@@ -124,11 +125,20 @@ words = record {
   cells = λ i. omega arith;
 }
 
+beside : BesideBytes pal
+unfolding pal
+beside = record {
+  consts = tested [] refl;
+  marks = (tested (codes "_putchar") refl, (tested (codes "_getchar") refl, tt));
+  imports = tt;
+}
+
 -- ---- the image
 
 pub legal : IsLegal pal
 legal = record {
   words = words;
+  beside = beside;
   header = subst (λ (x : Header). FieldsFit x (places_of x)) (sym header) (subst (λ (y : Places). FieldsFit h y) (sym places) header_fits);
   parts = subst (λ (y : Places). PartsFit pal (header_of pal) y) (sym pal_places) (subst (λ (x : Header). PartsFit pal x p) (sym header) parts);
 }

@@ -5,7 +5,7 @@ ghost use Rattle.pa_macho.specs.Layout.{base_of};
 ghost use Rattle.pa_image.specs.Places.{exported};
 ghost use Rattle.pa_image.specs.Small.{IsSmall};
 ghost use Rattle.pa_image.specs.Writing.{IsLegal};
-ghost use Rattle.pa_pal.specs.Pal as spec;
+ghost use Rattle.pa_image.specs.Pal as spec;
 
 use pa_a64::{ExceptionOp, Instr, StackOp, encode};
 use pa_fixups::Fixes;
@@ -80,7 +80,7 @@ fn marks(alloc: Global) -> Result<Marks, Memory>
 /// The runtime image, with the functions `_putchar`, which prints the low byte of its argument and gives that byte, and
 /// `_getchar`, which gives the next byte of the input, or -1. It imports nothing and has no slots. It answers `Memory` where
 /// memory is wanting.
-#[tactic(auto, unfolding(crate::specs::Pal::pal))]
+#[tactic(auto, unfolding(pa_image::specs::Pal::pal))]
 pub fn pal(alloc: Global) -> Result<Image, Memory>
     ensures value { IfOk result (λ image. image ≡ spec.pal) }
     ensures legal { IfOk result IsLegal }

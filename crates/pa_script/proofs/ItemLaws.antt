@@ -1,16 +1,15 @@
 -- What a line says has the form of an item.
-use Rattle.std.proofs.Common.{◌≡◌, ℕ, suc, Bool, true, false, cond, leb, ltb, ◌==◌, List, [], ◌∷◌, length, Option, Some, None, Result, Ok, Err, refl, sym, ap, ◌∙◌, subst}
+use Rattle.std.proofs.Common.{◌≡◌, ℕ, Bool, true, false, cond, ◌&&◌, ◌==◌, List, [], ◌∷◌, length, Option, Some, None, Result, Ok, Err, refl, sym, ap, ◌∙◌, subst}
 use Rattle.std.specs.Prelude.{option_and_then, option_map, codes}
-use Rattle.std.specs.List.{list_all}
 use Rattle.std.specs.Str.{bytes_eq}
-use Rattle.std.proofs.lemmas.Bool.{and_parts, and_from, lt-ltb}
 use Rattle.hex.specs.Hex.{decode_of, IsBytes}
 use Rattle.hex.specs.declared.error.FromHexError.{FromHexError}
 use Rattle.hex.proofs.HexLemmas.{decode_of-ok}
 use Rattle.pa_object.specs.declared.script.Deed.{Deed}
 use Rattle.pa_object.specs.declared.script.Deed.TheVariants as deed
 use Rattle.pa_object.specs.declared.script.Item.{Item}
-use Rattle.pa_object.specs.Script.{is_line}
+use Rattle.pa_object.specs.Script.{is_line, are_bytes}
+use Rattle.pa_object.proofs.Scripts.{AreBytes-are_bytes}
 use Rattle.pa_script.specs.Pieces.{Text, parts_of}
 use Rattle.pa_script.specs.Items as items
 
@@ -93,22 +92,23 @@ deed-sized word parts d e = go (bytes_eq word (codes "write")) (bytes_eq word (c
     go false true e = copy-sized parts d e
     go false false e = cc
 
-all_below : (bytes : List ℕ) → IsBytes bytes → list_all (λ byte. ltb byte 256) bytes ≡ true
-all_below [] h = refl
-all_below (byte ∷ bytes) h =
-    and_from (ltb byte 256) (list_all (λ byte. ltb byte 256) bytes) (lt-ltb byte 256 (h 0)) (all_below bytes (λ i. h (suc i)))
+three : (a b c : Bool) → (a && b) ≡ true → c ≡ true → (a && (b && c)) ≡ true
+three true true c h t = t
+three true false c h t = cc
+three false b c h t = cc
+
+-- an item that writes the bytes of digits is a line
+pub write-line : (step at : ℕ) (digits : Text) (bytes : List ℕ) → items.bytes digits ≡ Some bytes → is_line (record { step = step; deed = deed.Write at bytes }) ≡ true
+write-line step at digits bytes e =
+    let written = bytes-written digits bytes e in
+    three _ _ (are_bytes bytes) written.size (AreBytes-are_bytes bytes written.are_bytes)
 
 sized-line : (item : Item) → IsSized item.deed → is_line item ≡ true
 sized-line item h = go item.deed h
   where
     go : (d : Deed) → IsSized d → is_line (record { step = item.step; deed = d }) ≡ true
-    go (deed.Write at bytes) h =
-        let size = and_parts (leb 1 (length bytes)) (leb (length bytes) 4096) h.size in
-        let below = all_below bytes h.are_bytes in
-        simp (size.0, size.1, below)
-    go (deed.Copy to from count) h =
-        let size = and_parts (leb 1 count) (leb count 4096) h in
-        simp (size.0, size.1)
+    go (deed.Write at bytes) h = three _ _ (are_bytes bytes) h.size (AreBytes-are_bytes bytes h.are_bytes)
+    go (deed.Copy to from count) h = three _ _ true h refl
 
 item-sized : (parts : List Text) (item : Item) → items.item_of_parts parts ≡ Some item → IsSized item.deed
 item-sized [] item e = cc

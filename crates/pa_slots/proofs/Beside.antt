@@ -22,7 +22,7 @@ abbrev pub Outside : ℕ → List Fix → Type 0
 Outside k [] = Unit {0}
 Outside k (fix ∷ fixes) = ((k < fix.at) ⊎ (fix.at + 8 ≤ k)) × Outside k fixes
 
-put_outside : (at k : ℕ) (part page : List ℕ) → at + length part ≤ length page → (k < at) ⊎ (at + length part ≤ k) → get_or (put_at at part page) k 0 ≡ get_or page k 0
+pub put_outside : (at k : ℕ) (part page : List ℕ) → at + length part ≤ length page → (k < at) ⊎ (at + length part ≤ k) → get_or (put_at at part page) k 0 ≡ get_or page k 0
 put_outside at k part page le (inl lt) =
     let l : length (take at page) ≡ at = length-take-le at page (omega arith) in
     get_or_append_left (take at page) (part ++ drop (at + length part) page) 0 k (omega arith) ∙ get_or-take at page k 0 lt
@@ -124,7 +124,7 @@ starts_zero : (fixes : List Fix) → StartsAt (page_size * 0) fixes
 starts_zero [] = tt
 starts_zero (fix ∷ fixes) = omega arith
 
-beside_is : (at : SlotsAt) (starts : List ℕ) (slots : Slots) (bytes : List ℕ) (k : ℕ) → AreSlots at starts slots bytes → Outside k slots.fixes → get_or bytes k 0 ≡ get_or (plain_of at (length starts) slots.cells) k 0
+pub beside_is : (at : SlotsAt) (starts : List ℕ) (slots : Slots) (bytes : List ℕ) (k : ℕ) → AreSlots at starts slots bytes → Outside k slots.fixes → get_or bytes k 0 ≡ get_or (plain_of at (length starts) slots.cells) k 0
 beside_is at starts slots bytes k s o =
     let same : k ≡ page_size * 0 + k = omega arith in
     pages_outside at 0 k starts slots.fixes bytes (plain_of at (length starts) slots.cells) (starts_zero slots.fixes) s.rising s.pages (subst (λ (n : ℕ). Outside n slots.fixes) same o)
@@ -141,3 +141,17 @@ end_zeros at starts slots bytes le f s =
     let low = cells_from at + at.cells in
     zeros-stand low (length bytes - low) bytes (omega arith)
     (none_nonzero low (length bytes - low) bytes (λ k a b. beside_is at starts slots bytes k s (outside_high at slots.cells k slots.fixes f.each a) ∙ plain_high at (length starts) k slots.cells f.cells a))
+
+-- ---- __data
+
+plain_cells : (at : SlotsAt) (count k : ℕ) (cells : List ℕ) → k < length cells → get_or (plain_of at count cells) (cells_from at + k) 0 ≡ get_or cells k 0
+unfolding plain_of
+plain_cells at count k cells lt =
+    let n = page_size * count - (cells_from at + at.cells) in
+    let l : length {A = ℕ} (replicate (cells_from at) 0) ≡ cells_from at = length-replicate {A = ℕ} (cells_from at) 0 in
+    get_or-append_right (replicate (cells_from at) 0) (cells ++ replicate n 0) (cells_from at) (cells_from at + k) 0 l (omega arith)
+    ∙ ap (λ (m : ℕ). get_or (cells ++ replicate n 0) m 0) (omega arith) ∙ get_or_append_left cells (replicate n 0) 0 k lt
+
+-- its bytes beside the slots are those of the image
+pub cells_beside : (at : SlotsAt) (starts : List ℕ) (slots : Slots) (bytes : List ℕ) (k : ℕ) → AreSlots at starts slots bytes → k < length slots.cells → Outside (cells_from at + k) slots.fixes → get_or bytes (cells_from at + k) 0 ≡ get_or slots.cells k 0
+cells_beside at starts slots bytes k s lt o = beside_is at starts slots bytes (cells_from at + k) s o ∙ plain_cells at (length starts) k slots.cells lt

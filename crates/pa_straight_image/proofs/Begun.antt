@@ -41,7 +41,7 @@ use Rattle.pa_straight.specs.Source.{IsSource}
 use Rattle.pa_pal.proofs.Legal as pal_legal
 use Rattle.pa_load.proofs.Laws.{AreLoadable, word_fetched, slot_loaded, stack_allowed}
 use Rattle.pa_load.specs.Filling.{Filling, filled, filling_log, slot_value, slot_signs}
-use Rattle.pa_pal.specs.Pal.{pal, putchar, getchar}
+use Rattle.pa_image.specs.Pal.{pal, putchar, getchar}
 use Rattle.pa_load.specs.Loaded.{State, IsLoaded, begun_in, both, loaded, blank, filling, import_addresses, import_address, first_missing, image_regions, padded, text_rights, data_rights, linkedit_rights, stack, stack_base, stack_size}
 use Rattle.pa_straight_image.specs.Code.{text, stub, gap_behind, stub_place, pages_between}
 use Rattle.pa_straight_image.specs.Image.{image_of, once, putchar_slot}

@@ -18,7 +18,7 @@ use Rattle.pa_object.proofs.Placed.{HasCode-append}
 use Rattle.pa_object.proofs.Steps.{register-set, watching, reach, no_step, movz_step, movk_step, bl_step, pacibsp_step, print_step, retab_step, add64_small, scaled64_small}
 use Rattle.pa_object.proofs.StepsLeads.{IsReady, Leads, leads-then, no_leads}
 use Rattle.pa_object.proofs.StepsRun.{is_known-more, is_known-sign, AreBefore-more, shape-called, shape-more, all_known-enter, all_known-return}
-use Rattle.pa_pal.specs.Pal.{putchar}
+use Rattle.pa_image.specs.Pal.{putchar}
 use Rattle.pa_straight_image.specs.Code.{call, calls, stub}
 use Rattle.pa_straight_image.proofs.Stub.{adrp_step, add_step, ldr_step, braa_step, shape-jumped, all_known-jumped}
 

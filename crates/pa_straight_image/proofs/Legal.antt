@@ -27,8 +27,9 @@ use Rattle.pa_image.specs.declared.image.Image.{Image}
 use Rattle.pa_fixups.specs.declared.tables.DataAt.{DataAt}
 use Rattle.pa_image.specs.Bytes.{header_of, sections_of, fixups_size, data_at, slots_at, text_at}
 use Rattle.pa_image.proofs.Header.{sections_same, data_same}
+use Rattle.pa_image.proofs.Beside.{tested}
 use Rattle.pa_image.specs.Small.{IsSmall}
-use Rattle.pa_image.specs.Writing.{AreWords, PartsFit, IsLegal}
+use Rattle.pa_image.specs.Writing.{AreWords, BesideBytes, PartsFit, IsLegal}
 use Rattle.pa_straight.specs.declared.source.Straight.{Straight}
 use Rattle.pa_straight.specs.Source.{IsSource}
 use Rattle.pa_straight_image.specs.Code.{text, calls, epilogue, gap_behind, stub, stub_place, pages_between}
@@ -273,12 +274,22 @@ words_with (n ∷ ns) returns source = record {
   cells = λ i. omega arith;
 }
 
+beside_with : (prints : List ℕ) (returns : ℕ) → BesideBytes (image_of (program prints returns))
+unfolding image_of
+beside_with [] returns = record { consts = tested [] refl; marks = (tested (codes "_main") refl, tt); imports = tt }
+beside_with (n ∷ ns) returns = record {
+  consts = tested [] refl;
+  marks = (tested (codes "_main") refl, tt);
+  imports = (tested (codes "_putchar") refl, tt);
+}
+
 pub legal : (s : Straight) → IsSource s → IsLegal (image_of s)
 legal s source =
     let h = header s.prints s.returns source.few in
     let p = image_places s source in
     record {
       words = words_with s.prints s.returns source;
+      beside = beside_with s.prints s.returns;
       header = subst (λ (x : Header). FieldsFit x (places_of x)) (sym h) (subst (λ (y : Places). FieldsFit (header_with (length s.prints)) y) (sym (places (length s.prints) source.few)) (fits_with (length s.prints) source.few));
       parts = subst (λ (y : Places). PartsFit (image_of s) (header_of (image_of s)) y) (sym p)
           (subst (λ (x : Header). PartsFit (image_of s) x (places_with (length s.prints))) (sym h) (parts_with s.prints s.returns source.few));

@@ -25,7 +25,7 @@ use Rattle.pa_object.proofs.Placed.{HasCode-append, HasCode-same}
 use Rattle.pa_object.proofs.Steps.{register-set, watching, reach, no_step, movz_step, movk_step, add_sp_step, sub_sp_step, stp_sp_step, ldp_sp_step, bl_step, pacibsp_step, retab_step, exit_step, add64_small, scaled64_small}
 use Rattle.pa_object.proofs.StepsRun.{watched-then, is_known-more, is_known-sign, AreBefore-more, shape-more, shape-entered, shape-return, all_known-enter, all_known-return}
 use Rattle.pa_object.proofs.StepsLeads.{IsReady, Leads, leads-then}
-use Rattle.pa_pal.specs.Pal.{putchar}
+use Rattle.pa_image.specs.Pal.{putchar}
 use Rattle.pa_straight_image.specs.Code.{start, prologue, epilogue, calls, stub, text, gap_behind}
 use Rattle.pa_straight_image.proofs.Calls.{Ways, Leads_through, IsSigned, Printed, calls_run, two_parts}
 

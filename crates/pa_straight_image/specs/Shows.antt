@@ -8,7 +8,7 @@ use Rattle.pa_object.specs.Shape.{shape, Enter, all_known}
 use Rattle.pa_image.specs.declared.image.Image.{Image}
 use Rattle.pa_image.specs.Places.{mapped, entry, got_slots}
 use Rattle.pa_straight.specs.declared.source.Straight.{Straight}
-use Rattle.pa_pal.specs.Pal.{pal}
+use Rattle.pa_image.specs.Pal.{pal}
 use Rattle.pa_load.specs.Loaded.{State, IsLoaded, loaded, begun_in, both}
 
 -- the instructions that a run of the whole program takes

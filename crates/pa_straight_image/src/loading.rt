@@ -1,5 +1,5 @@
 ghost use Rattle.std.specs.Prelude.{◌≡◌, IfOk};
-ghost use Rattle.pa_pal.specs.Pal.{pal};
+ghost use Rattle.pa_image.specs.Pal.{pal};
 ghost use Rattle.pa_load.specs.Loaded.{IsLoaded, state_of};
 ghost use Rattle.pa_straight_image.specs.Image.{IsProgram};
 

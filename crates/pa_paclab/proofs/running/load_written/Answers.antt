@@ -4,7 +4,7 @@ use Rattle.std.specs.Prelude.{IfOk}
 use Rattle.pa_image.specs.declared.image.Image.{Image}
 use Rattle.pa_image.specs.Bytes.{IsImage}
 use Rattle.pa_image.proofs.Laws.{one_image}
-use Rattle.pa_pal.specs.Pal.{pal}
+use Rattle.pa_image.specs.Pal.{pal}
 use Rattle.pa_load.specs.Loaded.{IsLoaded, state_of}
 use Rattle.pa_straight_image.specs.Image.{image_of}
 use Rattle.pa_paclab.proofs.running.load_written.Goals as goal

@@ -7,7 +7,7 @@ use Rattle.pa_image.specs.declared.image.Image.{Image}
 use Rattle.pa_image.specs.Places.{exported}
 use Rattle.pa_image.specs.Small.{IsSmall}
 use Rattle.pa_image.specs.Writing.{IsLegal}
-use Rattle.pa_pal.specs.Pal.{pal, exports}
+use Rattle.pa_image.specs.Pal.{pal, exports}
 use Rattle.pa_pal.proofs.Legal.{legal, small, pal_exports}
 use Rattle.pa_pal.proofs.runtime.pal.Goals as goal
 

@@ -4,7 +4,7 @@ use Rattle.pa_object.specs.declared.script.Deed.{Deed}
 use Rattle.pa_object.specs.declared.script.Deed.TheVariants as deed
 use Rattle.pa_object.specs.declared.script.Item.{Item}
 use Rattle.pa_script.specs.Spelled.{deed_spelled, item_spelled}
-use Rattle.pa_script.proofs.ItemLaws.{item-line}
+use Rattle.pa_script.proofs.ItemLaws.{item-line, write-line}
 use Rattle.pa_script.proofs.item.read_item.Goals as goal
 
 pub returns-in-Copy-clause-line : goal.returns-in-Copy-clause-line
@@ -13,3 +13,6 @@ returns-in-Copy-clause-line c =
     item-line c.args.line.now said
     (sym c.spelled.ensures ∙ ap (option_and_then item_spelled) c.in-Some.is
     ∙ ap (λ d. option_map (λ (x : Deed). let made : Item = record { step = c.in-Some.field-0.step; deed = x } in made) (deed_spelled d)) c.in-Copy.is)
+
+pub returns-in-Some-2-clause-line : goal.returns-in-Some-2-clause-line
+returns-in-Some-2-clause-line c = write-line c.in-Some.field-0.step c.in-Write.at c.in-Write.digits.now c.in-Some-2.bytes (sym c.in_ok-bytes-in-Write.ensures ∙ c.in-Some-2.is)

@@ -4,7 +4,7 @@ use Rattle.pa_macho.specs.declared.header.Role.TheVariants.{Main}
 use Rattle.pa_image.specs.declared.image.Image.{Image}
 use Rattle.pa_image.specs.Small.{IsSmall}
 use Rattle.pa_image.specs.Writing.{IsLegal}
-use Rattle.pa_pal.specs.Pal.{pal}
+use Rattle.pa_image.specs.Pal.{pal}
 use Rattle.pa_load.specs.Loaded.{first_missing}
 use Rattle.pa_straight_image.specs.Image.{image_of}
 use Rattle.pa_straight_image.proofs.Begun.{all_found, is_main}
