@@ -2,9 +2,9 @@ ghost use Rattle.std.specs.Prelude.{◌≡◌, IfOk, length, List, true};
 ghost use Rattle.pa_mem.specs.Memory.{Region, Read, Write, allowed};
 ghost use Rattle.pa_object.specs.Script.{deed_fits, is_line};
 
-use crate::{End, Loaded, Machine, Trap};
+use crate::{End, Flags, Loaded, Machine, Trap};
 use pa_log::Log;
-use pa_mem::{Rights, Space};
+use pa_mem::{Rights, Size, Space};
 use pa_num::{Bytes, Memory};
 use pa_object::{Deed, Item};
 use pa_pac::{Entry, Event, Key, Way, When, ZeroPac};
@@ -19,7 +19,7 @@ fn sixteen(alloc: Global) -> Result<Bytes, Memory>
 
 // Sixteen bytes to read and write at 0x2000, sixteen more right behind them, and these words at 0x4000.
 #[tactic(auto, using(pa_mem::proofs::Found::allowing))]
-fn space(alloc: Global, words: &[u32]) -> Result<Space, Memory>
+fn space(alloc: Global, words: &[u32], rights: Rights) -> Result<Space, Memory>
     ensures read { IfOk result (λ space. allowed Read space 0x2000 16 ≡ true) }
     ensures write { IfOk result (λ space. allowed Write space 0x2010 16 ≡ true) }
 {
@@ -35,7 +35,7 @@ fn space(alloc: Global, words: &[u32]) -> Result<Space, Memory>
     let mut space = Space::new(alloc);
     space.add(0x2000, sixteen(alloc)?, data)?;
     space.add(0x2010, sixteen(alloc)?, data)?;
-    space.add(0x4000, code, Rights::RUN)?;
+    space.add(0x4000, code, rights)?;
     if space.inside(0x2000, 16, Rights::READ) && space.inside(0x2010, 16, Rights::WRITE) {
         Ok(space)
     } else {
@@ -47,8 +47,21 @@ fn machine<'a>(alloc: Global, words: &[u32], p: &'a ZeroPac) -> Result<Machine<'
     ensures read { IfOk result (λ made. allowed Read made.machine.memory 0x2000 16 ≡ true) }
     ensures write { IfOk result (λ made. allowed Write made.machine.memory 0x2010 16 ≡ true) }
 {
+    machine_under(alloc, words, Rights::RUN, p)
+}
+
+// The words lie in a region with these rights.
+fn machine_under<'a>(
+    alloc: Global,
+    words: &[u32],
+    rights: Rights,
+    p: &'a ZeroPac,
+) -> Result<Machine<'a, ZeroPac>, Memory>
+    ensures read { IfOk result (λ made. allowed Read made.machine.memory 0x2000 16 ≡ true) }
+    ensures write { IfOk result (λ made. allowed Write made.machine.memory 0x2010 16 ≡ true) }
+{
     let loaded = Loaded {
-        space: space(alloc, words)?,
+        space: space(alloc, words, rights)?,
         log: Log::new(alloc),
         pc: 0x4000,
         sp: 0x2010,
@@ -142,6 +155,61 @@ fn calls_by_x30(rt: HostRuntime) {
         machine.log().entries(),
         &[Entry { when, event: take }, Entry { when, event: land }][..]
     );
+}
+
+#[test]
+fn runs_what_it_has_written(rt: HostRuntime) {
+    // A loop whose first instruction, movz x0, #5, is written over by svc #3.
+    let words = [
+        0xD288_0001,
+        0xD280_0C22,
+        0xF2BA_8002,
+        0xD280_00A0,
+        0xB900_0C22,
+        0x17FF_FFFE,
+    ];
+    let all = Rights {
+        read: true,
+        write: true,
+        run: true,
+    };
+    let rows = [
+        (all, End::Exit(5)),
+        (Rights::RUN, End::Trap(Trap::DataAbort)),
+    ];
+    for (rights, expected) in rows {
+        let mut machine = machine_under(rt.alloc(), &words, rights, &ZeroPac).expect(
+            &rt,
+            "ample memory",
+        );
+        assert_eq!(rt; machine.run(&[], 100), Ok(expected));
+    }
+}
+
+#[test]
+fn shows_its_state(rt: HostRuntime) {
+    // subs x1, x0, #7, and svc #3.
+    let words = [0xF100_1C01, 0xD400_0061];
+    let machine = machine(rt.alloc(), &words, &ZeroPac).expect(&rt, "ample memory");
+    let mut registers = [0; 31];
+    registers[0] = 7;
+    let mut machine = machine.with_registers(registers);
+    assert_eq!(rt; machine.run(&[], 1), Ok(End::Bound));
+    assert_eq!(rt;
+        (machine.pc(), machine.sp(), machine.count()),
+        (0x4004, 0x2010, 1)
+    );
+    assert_eq!(rt; machine.ended(), None);
+    let flags = Flags {
+        negative: false,
+        zero: true,
+        carry: true,
+        overflow: false,
+    };
+    assert_eq!(rt; machine.flags(), flags);
+    assert_eq!(rt; &machine.registers()[..2], &[7, 0][..]);
+    assert_eq!(rt; machine.space().read(0x2000, Size::B8), Ok(0));
+    assert_eq!(rt; machine.run(&[], 2), Ok(End::Exit(7)));
 }
 
 // Room for all the steps that there can be is more than memory holds.

@@ -1,5 +1,5 @@
 -- Items that all fit.
-use Rattle.std.proofs.Common.{◌≡◌, ℕ, zero, suc, ◌<◌, ◌≤◌, Bool, true, false, cond, not, leb, ltb, ◌&&◌, List, [], ◌∷◌, length, get_or, Option, Some, None, refl, inl, inr, arith}
+use Rattle.std.proofs.Common.{◌≡◌, ℕ, zero, suc, ◌<◌, ◌≤◌, Bool, true, false, not, leb, ltb, ◌&&◌, List, [], ◌∷◌, length, get_or, Option, Some, None, refl, inl, inr, arith}
 use Rattle.std.specs.Prelude.{position, IfNone}
 use Rattle.std.specs.List.{position_or_len}
 use Rattle.std.proofs.lemmas.Bool.{and_parts, and_from, leb-true, lt-ltb, cases_lt}

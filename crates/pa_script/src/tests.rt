@@ -1,4 +1,5 @@
-ghost use Rattle.std.specs.Prelude.{◌≡◌};
+ghost use Rattle.std.specs.Prelude.{◌≡◌, IfOk, length, true};
+ghost use Rattle.pa_object.specs.Script.{is_line};
 
 use crate::{Deed, Item, Script, ScriptRule, fits, read_script};
 use pa_mem::{Rights, Space};
@@ -93,4 +94,73 @@ fn finds_the_first_line_that_breaks_a_rule(rt: HostRuntime) {
             Err(Fault::Refused { rule, place })
         );
     }
+}
+
+fn sixteen(alloc: Global) -> Result<Bytes, Memory>
+    ensures { IfOk result (λ bytes. length bytes ≡ 16) }
+{
+    let bytes = Bytes::from_slice(alloc, &[0; 16])?;
+    Ok(bytes)
+}
+
+// Sixteen bytes to read and write at 0x2000, sixteen to read right behind them, and sixteen to run at 0x4000.
+fn space(alloc: Global) -> Result<Space, Memory> {
+    let data = Rights {
+        read: true,
+        write: true,
+        run: false,
+    };
+    let mut space = Space::new(alloc);
+    space.add(0x2000, sixteen(alloc)?, data)?;
+    space.add(0x2010, sixteen(alloc)?, Rights::READ)?;
+    space.add(0x4000, sixteen(alloc)?, Rights::RUN)?;
+    Ok(space)
+}
+
+#[test]
+fn finds_the_first_line_that_does_not_fit(rt: HostRuntime) {
+    let space = space(rt.alloc()).expect(&rt, "ample memory");
+    let rows = [
+        (&b""[..], None),
+        (b"0 write 0x2000 00\n9 write 0x200f 00", None),
+        (b"0 write 0x2000 00\n9 write 0x200f 0000", Some(2)),
+        (b"0 write 0x2010 00", Some(1)),
+        (b"0 write 0x100000400 00", Some(1)),
+        (b"0 copy 0x2000 0x2010 16", None),
+        (b"0 copy 0x2000 0x2008 8", None),
+        (b"0 copy 0x2000 0x2008 9", Some(1)),
+        (b"0 copy 0x2010 0x2000 16", Some(1)),
+        (b"0 copy 0x2000 0x4000 8", Some(1)),
+    ];
+    for (text, expected) in rows {
+        let Ok(script) = read_script(rt.alloc(), text) else {
+            panic!(rt; "ample memory");
+        };
+        assert_eq!(rt; fits(&script, &space), expected);
+    }
+}
+
+fn copy(step: u32) -> Item
+    ensures { is_line result ≡ true }
+{
+    let deed = Deed::Copy {
+        to: 0,
+        from: 0,
+        count: 1,
+    };
+    Item { step, deed }
+}
+
+#[test]
+fn has_at_most_65536_items(rt: HostRuntime) {
+    let mut script = Script::new(rt.alloc());
+    for step in 0..65_536 {
+        assert_eq!(rt; script.push(copy(step)), Ok(()));
+    }
+    let refused = Fault::Refused {
+        rule: ScriptRule::P3,
+        place: 65_537,
+    };
+    assert_eq!(rt; script.push(copy(65_535)), Err(refused));
+    assert_eq!(rt; script.as_slice().len(), 65_536);
 }

@@ -1,4 +1,4 @@
-use Rattle.std.proofs.Common.{◌+◌, ◌<◌, [], ◌∷◌, ◌∙◌, ap, sym, length, drop, arith}
+use Rattle.std.proofs.Common.{◌+◌, ◌∷◌, ◌∙◌, ap, sym, length, drop}
 use Rattle.pa_script.specs.Pieces.{lines_of}
 use Rattle.pa_script.proofs.Cuts.{nonempty, lines_first, lines_last}
 use Rattle.pa_script.proofs.pieces.first_line.Goals as goal
