@@ -1,6 +1,6 @@
 -- What is fetched never changes, whatever fits is written between any instructions.
-use Rattle.std.proofs.Common.{◌≡◌, ℕ, zero, suc, Bool, true, false, cond, List, [], ◌∷◌, map, Option, Some, None, refl, sym, ap, ◌∙◌}
-use Rattle.std.specs.Prelude.{◌&&◌, ◌==◌}
+use Rattle.std.proofs.Common.{◌≡◌, ℕ, zero, suc, Bool, true, false, cond, List, [], ◌∷◌, map, Option, Some, None, refl, ap, ◌∙◌}
+use Rattle.std.specs.Prelude.{◌==◌}
 use Rattle.std.proofs.lemmas.Bool.{and_parts}
 use Rattle.pa_pac.specs.Signing.{Code}
 use Rattle.pa_a64.specs.declared.instr.Instr.{Instr}
@@ -19,7 +19,6 @@ use Rattle.pa_mem.proofs.Runs.{fetch-store, fetch-with_bytes}
 use Rattle.pa_object.specs.declared.end.End.{End}
 use Rattle.pa_object.specs.declared.script.Deed.{Deed}
 use Rattle.pa_object.specs.declared.script.Deed.TheVariants as deed
-use Rattle.pa_object.specs.declared.script.Item.{Item}
 use Rattle.pa_object.specs.Machine.{Machine}
 use Rattle.pa_object.specs.Traps.{trap_of, abort_unless}
 use Rattle.pa_object.specs.Effects.{effect}

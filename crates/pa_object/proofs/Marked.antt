@@ -1,6 +1,6 @@
 -- Marks stay right in every run, and what is known was signed.
-use Rattle.std.proofs.Common.{◌≡◌, ℕ, zero, suc, Bool, true, false, List, [], ◌∷◌, ◌++◌, Option, Some, None, refl, sym, ap, subst, ◌∙◌, ◌⊎◌, inl, inr}
-use Rattle.std.specs.Prelude.{◌&&◌, ◌||◌, ◌==◌}
+use Rattle.std.proofs.Common.{◌≡◌, ℕ, zero, suc, true, [], ◌∷◌, ◌++◌, Option, Some, None, refl, sym, ap, subst, ◌∙◌, ◌⊎◌, inl, inr}
+use Rattle.std.specs.Prelude.{◌&&◌, ◌==◌}
 use Rattle.std.proofs.lemmas.Bool.{or_cases, and_parts, eqb-true}
 use Rattle.pa_pac.specs.declared.key.Key.{Key}
 use Rattle.pa_pac.specs.declared.key.Key.TheVariants.{IA, IB, DA, DB, GA}
@@ -17,7 +17,6 @@ use Rattle.pa_a64.specs.declared.instr.StackOp.TheVariants.{Retab, Pacibsp, Auti
 use Rattle.pa_a64.specs.declared.instr.PlainOp.TheVariants.{Paciza, Autiza, Xpaci}
 use Rattle.pa_object.specs.declared.end.End.{End}
 use Rattle.pa_object.specs.Machine.{Machine}
-use Rattle.pa_object.specs.Effects.{effect}
 use Rattle.pa_object.specs.Marked.{IsMarked}
 use Rattle.pa_object.specs.Rows.{events, entries_at}
 use Rattle.pa_object.specs.Run.{Script, step, applied_all, unless_ended, advance, advance_by}

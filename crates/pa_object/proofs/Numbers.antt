@@ -1,5 +1,5 @@
 -- What rows compute are numbers of 64 bits.
-use Rattle.std.proofs.Common.{◌≡◌, ℕ, zero, suc, ◌+◌, ◌-◌, ◌*◌, ◌/◌, ◌%◌, ◌^◌, ◌<◌, ◌≤◌, ℤ, pos, negsuc, neg_ℤ, Bool, true, false, cond, eqb, leb, sym, ap, subst, ◌∙◌, ◌⊎◌, inl, inr, arith, lit<, bit_and, bit_or, bit_xor}
+use Rattle.std.proofs.Common.{◌≡◌, ℕ, zero, suc, ◌+◌, ◌-◌, ◌*◌, ◌/◌, ◌%◌, ◌^◌, ◌<◌, ◌≤◌, ℤ, pos, negsuc, neg_ℤ, eqb, leb, sym, ap, subst, ◌∙◌, ◌⊎◌, inl, inr, arith, lit<}
 use Rattle.std.specs.Prelude.{int_div}
 use Rattle.std.specs.Int.{w64, cast_signed, cast_unsigned, bit_at}
 use Rattle.std.specs.Int.Signed.{mag}
@@ -7,8 +7,8 @@ use Rattle.std.specs.Int.Bits.{and_lt}
 use Rattle.std.proofs.lemmas.Bool.{cond_both, cases_lt, lt-ltb, le-ltb}
 use Rattle.std.proofs.lemmas.Nat.{xor_lt, or_lt, shl_below, mul-add-lt, pow_pos, pow-add}
 use Rattle.std.proofs.Math.Nat.{div-le_self, mod-lt, div-lt_iff_lt-mul}
-use Rattle.pa_num.specs.Arithmetic.{wrap, add64, sub64, mul64, not64, udiv64, sdiv64, lsl64, lsr64, asr64, scaled64, with_part, is_negative64}
-use Rattle.pa_num.specs.Bits.{sign_extended, truncated}
+use Rattle.pa_num.specs.Arithmetic.{wrap, add64, sub64, mul64, not64, udiv64, sdiv64, lsl64, lsr64, asr64, with_part, is_negative64}
+use Rattle.pa_num.specs.Bits.{sign_extended}
 use Rattle.pa_num.proofs.Bits.{value_fits, within_64}
 use Rattle.pa_a64.specs.declared.instr.MoveWideOp.{MoveWideOp}
 use Rattle.pa_a64.specs.declared.instr.MoveWideOp.TheVariants.{Movz, Movn, Movk}

@@ -3,7 +3,7 @@ use Rattle.std.proofs.Common.{◌≡◌, ℕ, suc, ◌+◌, ◌*◌, ◌%◌, �
 use Rattle.std.specs.List.{flat_map, AllByRecursion}
 use Rattle.std.specs.Int.{w32, to_le_bytes}
 use Rattle.pa_a64.specs.declared.instr.Instr.{Instr}
-use Rattle.pa_a64.specs.Decoding.{InRange, encoded, decoded}
+use Rattle.pa_a64.specs.Decoding.{InRange, encoded}
 use Rattle.pa_a64.proofs.RoundTrip.{decoded-encoded, encoded-lt}
 use Rattle.pa_mem.specs.Memory.{Region, Run, allowed, fetch, bytes_at}
 use Rattle.pa_object.specs.Placed.{Stands, HasCode}

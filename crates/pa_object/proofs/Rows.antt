@@ -1,5 +1,5 @@
 -- What a row changes and which events it makes are what its attributes say.
-use Rattle.std.proofs.Common.{◌≡◌, ℕ, suc, Bool, true, false, cond, List, [], ◌∷◌, ◌++◌, get_or, set, refl, sym, ◌∙◌, get_or-set_other}
+use Rattle.std.proofs.Common.{◌≡◌, ℕ, suc, Bool, true, false, cond, List, ◌++◌, get_or, set, refl, sym, ◌∙◌, get_or-set_other}
 use Rattle.std.specs.Prelude.{◌==◌, ◌||◌, eqb}
 use Rattle.std.specs.List.{list_any}
 use Rattle.std.proofs.lemmas.Bool.{eq-eqb, or_parts, true≢false}
@@ -20,7 +20,7 @@ use Rattle.pa_a64.specs.declared.instr.BranchAuthenticatedOp.TheVariants.{Braa, 
 use Rattle.pa_a64.specs.declared.instr.StackOp.TheVariants.{Retab, Pacibsp, Autibsp}
 use Rattle.pa_a64.specs.declared.instr.SignOp.TheVariants.{Pacia, Pacib, Pacda, Pacdb}
 use Rattle.pa_a64.specs.declared.instr.PlainOp.TheVariants.{Paciza, Autiza, Xpaci}
-use Rattle.pa_a64.specs.declared.instr.ExceptionOp.TheVariants.{Svc, Brk}
+use Rattle.pa_a64.specs.declared.instr.ExceptionOp.TheVariants.{Svc}
 use Rattle.pa_mem.specs.Memory.{load}
 use Rattle.pa_object.specs.Machine.{Machine, register, after, next}
 use Rattle.pa_object.specs.Traps.{address}

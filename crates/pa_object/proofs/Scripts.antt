@@ -1,10 +1,10 @@
 -- What a script writes is of bytes, as a test and as a fact.
-use Rattle.std.proofs.Common.{◌≡◌, ℕ, zero, suc, ◌<◌, ◌≤◌, true, List, [], ◌∷◌, refl, arith}
+use Rattle.std.proofs.Common.{◌≡◌, ℕ, zero, suc, ◌<◌, true, List, [], ◌∷◌, refl, arith}
 use Rattle.std.specs.Prelude.{◌&&◌, ltb, leb}
 use Rattle.std.proofs.lemmas.Bool.{and_parts, and_from, ltb-true, lt-ltb}
 use Rattle.pa_mem.specs.Memory.{AreBytes}
 use Rattle.pa_object.specs.declared.script.Item.{Item}
-use Rattle.pa_object.specs.Script.{are_bytes, writes_bytes, size_of_deed, is_line, all_lines}
+use Rattle.pa_object.specs.Script.{are_bytes, writes_bytes, size_of_deed, is_line}
 
 pub are_bytes-AreBytes : (bytes : List ℕ) → are_bytes bytes ≡ true → AreBytes bytes
 are_bytes-AreBytes [] t = λ i. omega arith

@@ -1,6 +1,6 @@
 -- What single entries show: qualified loads, calls through pointers, and what shows nothing.
 use Rattle.std.proofs.Common.{◌≡◌, ℕ, Bool, true, false, List, [], ◌∷◌, ◌++◌, Some, refl, ap}
-use Rattle.std.specs.Prelude.{not, ◌&&◌, ◌||◌, ◌==◌, if◌then◌else◌}
+use Rattle.std.specs.Prelude.{◌==◌}
 use Rattle.std.specs.List.{list_any}
 use Rattle.std.proofs.lemmas.Bool.{or_right}
 use Rattle.pa_pac.specs.declared.key.Key.{Key}
@@ -13,7 +13,7 @@ use Rattle.pa_pac.specs.declared.event.When.TheVariants as moment
 use Rattle.pa_pac.specs.Key.{same_key}
 use Rattle.pa_pac.specs.Log.{Log}
 use Rattle.pa_object.specs.Run.{Place}
-use Rattle.pa_object.specs.Shape.{Taken, Load, Call, entered, shape, last_taken}
+use Rattle.pa_object.specs.Shape.{Load, Call, entered, shape, last_taken}
 
 entered-none : (trail : List Place) (key : Key) (when : When) → same_key key IB ≡ false → entered trail key when ≡ []
 entered-none trail key moment.Load e = refl

@@ -1,5 +1,5 @@
 -- What a step does at each row that computes, whatever its registers and its numbers.
-use Rattle.std.proofs.Common.{◌≡◌, ℕ, ◌*◌, ◌-◌, ◌%◌, Bool, refl, if◌then◌else◌}
+use Rattle.std.proofs.Common.{◌≡◌, ℕ, ◌-◌, ◌%◌, Bool, refl, if◌then◌else◌}
 use Rattle.std.specs.Prelude.{ℤ}
 use Rattle.pa_num.specs.Arithmetic.{add64, scaled64}
 use Rattle.pa_pac.specs.Signing.{Code, canonical}

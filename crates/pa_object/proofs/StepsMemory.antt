@@ -1,5 +1,5 @@
 -- What a step does at each row that loads or stores, whatever its registers and its offset.
-use Rattle.std.proofs.Common.{◌≡◌, ℕ, ◌*◌, true, refl, ap, ◌∙◌}
+use Rattle.std.proofs.Common.{◌≡◌, ℕ, ◌*◌, true, refl, ap}
 use Rattle.std.specs.Prelude.{ℤ}
 use Rattle.pa_num.specs.Arithmetic.{add64, scaled64}
 use Rattle.pa_pac.specs.Signing.{Code}

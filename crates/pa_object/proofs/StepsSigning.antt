@@ -4,7 +4,6 @@ use Rattle.pa_pac.specs.declared.key.Key.TheVariants.{IA, IB, GA}
 use Rattle.pa_pac.specs.declared.event.Way.TheVariants as way
 use Rattle.pa_pac.specs.Signing.{Code, auth, generic_code}
 use Rattle.pa_a64.specs.declared.instr.Instr.TheVariants as i
-use Rattle.pa_a64.specs.declared.instr.BranchAuthenticatedOp.{BranchAuthenticatedOp}
 use Rattle.pa_a64.specs.declared.instr.BranchAuthenticatedOp.TheVariants.{Braa, Blraa, Blrab}
 use Rattle.pa_a64.specs.declared.instr.StackOp.TheVariants.{Retab, Pacibsp, Autibsp}
 use Rattle.pa_a64.specs.declared.instr.SignOp.{SignOp}

@@ -1,7 +1,6 @@
 -- A stub leads to what its slot's pointer is accepted as.
-use Rattle.std.proofs.Common.{◌≡◌, ℕ, suc, ◌+◌, ◌-◌, ◌*◌, ◌%◌, ◌^◌, ◌<◌, ◌≤◌, true, false, List, [], ◌∷◌, length, get_or, set, refl, ◌∙◌, arith, Some, None, length-set, get_or-set_same, get_or-set_other}
-use Rattle.std.specs.Prelude.{ℤ, pos}
-use Rattle.pa_num.specs.Arithmetic.{add64, scaled64}
+use Rattle.std.proofs.Common.{◌≡◌, ℕ, suc, ◌+◌, ◌-◌, ◌*◌, ◌%◌, ◌^◌, ◌<◌, true, false, List, [], ◌∷◌, length, get_or, set, refl, ◌∙◌, arith, Some, None, length-set, get_or-set_same, get_or-set_other}
+use Rattle.pa_num.specs.Arithmetic.{add64}
 use Rattle.pa_pac.specs.declared.key.Key.TheVariants.{IA}
 use Rattle.pa_pac.specs.declared.event.Way.TheVariants as way
 use Rattle.pa_pac.specs.declared.event.Event.TheVariants as event

@@ -1,9 +1,8 @@
 -- Any run beside any script: its trail and its log only grow, in step with its count, and so does its shape.
-use Rattle.std.proofs.Common.{◌≡◌, ◌≢◌, ℕ, zero, suc, ◌+◌, ◌<◌, ◌≤◌, Bool, true, false, cond, List, [], ◌∷◌, ◌++◌, length, Option, Some, None, refl, sym, ap, subst, ◌∙◌, arith}
+use Rattle.std.proofs.Common.{◌≡◌, ◌≢◌, ℕ, zero, suc, ◌<◌, cond, List, [], ◌∷◌, ◌++◌, length, Option, Some, None, refl, sym, ap, subst, ◌∙◌, arith}
 use Rattle.std.proofs.lemmas.Bool.{eq-eqb, ne_eqb}
 use Rattle.std.proofs.lemmas.List.{append_assoc}
 use Rattle.pa_pac.specs.declared.event.Event.{Event}
-use Rattle.pa_pac.specs.declared.event.When.TheVariants as moment
 use Rattle.pa_pac.specs.Log.{Log}
 use Rattle.pa_pac.specs.Signing.{Code}
 use Rattle.pa_mem.specs.Memory.{fetch}
@@ -11,12 +10,12 @@ use Rattle.pa_object.specs.declared.end.End.{End}
 use Rattle.pa_object.specs.Machine.{Machine}
 use Rattle.pa_object.specs.Effects.{effect}
 use Rattle.pa_object.specs.Rows.{events, entries_at}
-use Rattle.pa_object.specs.Run.{Script, step, applied_all, advance, Place, Watched, trailed, placed, watched_once, watched}
+use Rattle.pa_object.specs.Run.{Script, applied_all, advance, Place, Watched, trailed, placed, watched_once, watched}
 use Rattle.pa_object.specs.Shape.{Shown, shape, shown_by}
 use Rattle.pa_object.proofs.Growth.{applied_all_wrote, advance-goes, advance-ended, effect_counts}
 use Rattle.pa_object.proofs.Rows.{effect_events}
 use Rattle.pa_object.proofs.Stepping.{StepIs, traps, does, step_is}
-use Rattle.pa_object.proofs.StepsRun.{IsBefore, AreBefore, AreBefore-more, shape-more}
+use Rattle.pa_object.proofs.StepsRun.{AreBefore, AreBefore-more, shape-more}
 
 -- ---- a run that is watched
 

@@ -1,5 +1,5 @@
 -- The registers stay as many as they are, in every run.
-use Rattle.std.proofs.Common.{◌≡◌, ℕ, zero, suc, Bool, true, false, cond, List, [], ◌∷◌, length, set, Option, Some, None, refl, ap, ◌∙◌, length-set}
+use Rattle.std.proofs.Common.{◌≡◌, ℕ, zero, suc, Bool, true, false, cond, List, length, set, Option, Some, None, refl, ap, ◌∙◌, length-set}
 use Rattle.std.specs.Prelude.{◌==◌}
 use Rattle.pa_pac.specs.Signing.{Code}
 use Rattle.pa_a64.specs.declared.instr.Instr.{Instr}

@@ -1,10 +1,9 @@
 -- Registers and places stay numbers of 64 bits, and memory and the input stay of bytes, in every run.
-use Rattle.std.proofs.Common.{◌≡◌, ℕ, zero, suc, ◌+◌, ◌-◌, ◌*◌, ◌/◌, ◌%◌, ◌^◌, ◌<◌, ◌≤◌, ℤ, Bool, true, false, cond, eqb, List, [], ◌∷◌, length, get_or, set, Option, Some, None, refl, sym, ap, subst, ◌∙◌, arith, lit<}
-use Rattle.std.specs.Prelude.{◌&&◌, ◌==◌}
+use Rattle.std.proofs.Common.{◌≡◌, ℕ, zero, suc, ◌+◌, ◌%◌, ◌^◌, ◌<◌, ◌≤◌, Bool, true, false, cond, eqb, List, [], ◌∷◌, set, Option, Some, None, refl, sym, subst, arith, lit<}
+use Rattle.std.specs.Prelude.{◌==◌}
 use Rattle.std.proofs.lemmas.Bool.{and_parts, cond_both}
-use Rattle.pa_num.specs.Arithmetic.{add64, sub64, scaled64}
-use Rattle.pa_num.specs.Bits.{sign_extended}
-use Rattle.pa_pac.specs.Signing.{Code, canonical, sign}
+use Rattle.pa_num.specs.Arithmetic.{add64}
+use Rattle.pa_pac.specs.Signing.{Code}
 use Rattle.pa_pac.proofs.Laws.{canonical-lt, sign-lt, auth-lt, generic_code-lt}
 use Rattle.pa_a64.specs.declared.instr.Instr.{Instr}
 use Rattle.pa_a64.specs.declared.instr.Instr.TheVariants as i
@@ -30,9 +29,8 @@ use Rattle.pa_object.specs.declared.end.End.{End}
 use Rattle.pa_object.specs.declared.end.Trap.{Trap}
 use Rattle.pa_object.specs.declared.script.Deed.{Deed}
 use Rattle.pa_object.specs.declared.script.Deed.TheVariants as deed
-use Rattle.pa_object.specs.declared.script.Item.{Item}
 use Rattle.pa_object.specs.Machine.{Machine, register, register_or_sp, with_register, with_register_or_sp, goes_to, after, next, condition_holds}
-use Rattle.pa_object.specs.Traps.{Asked, answer, trap_of, address, asked_by_branch, asked_by_blraaz, asked_of_link, asked_by_authenticate, asked_by_autiza}
+use Rattle.pa_object.specs.Traps.{Asked, answer, trap_of, asked_by_branch, asked_by_blraaz, asked_of_link, asked_by_authenticate, asked_by_autiza}
 use Rattle.pa_object.specs.Effects.{effect, called, prints, reads, exits, first_or_end, behind_first, raw_or_zero, raw_of, with_memory, links}
 use Rattle.pa_object.specs.Script.{writes_bytes, all_lines, is_line}
 use Rattle.pa_object.specs.Run.{Script, step, on_word, on_instr, unless_trap, unless_ended, done_to, applied, applied_all, advance, advance_by}

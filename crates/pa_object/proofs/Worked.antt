@@ -25,7 +25,7 @@ use Rattle.pa_object.specs.Machine.{Machine, begun}
 use Rattle.pa_object.specs.Traps.{trap_of}
 use Rattle.pa_object.specs.Effects.{effect}
 use Rattle.pa_object.specs.Run.{run, step, advance, advance_by, applied_all, end_of, watched}
-use Rattle.pa_object.specs.Shape.{Enter, Shown, shape, place_of}
+use Rattle.pa_object.specs.Shape.{Enter, shape, place_of}
 
 -- ---- the program
 

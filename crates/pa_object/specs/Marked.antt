@@ -1,5 +1,5 @@
 -- The marks of a log.
-use Rattle.std.specs.Prelude.{◌≡◌, List, [], ◌∷◌}
+use Rattle.std.specs.Prelude.{◌≡◌, [], ◌∷◌}
 use Rattle.pa_pac.specs.declared.event.Event.{Event}
 use Rattle.pa_pac.specs.declared.event.Event.TheVariants.{Sign, Take, Land}
 use Rattle.pa_pac.specs.Log.{Log, is_known}

@@ -18,7 +18,7 @@ use Rattle.pa_a64.specs.declared.instr.LoadStoreHalfOp.TheVariants.{Ldrh, Strh, 
 use Rattle.pa_a64.specs.declared.instr.LoadStoreByteOp.TheVariants.{Ldrb, Strb, Ldrsb}
 use Rattle.pa_a64.specs.declared.instr.LoadStoreUnscaledOp.TheVariants.{Ldur, Stur}
 use Rattle.pa_a64.specs.declared.instr.LoadStorePairOp.TheVariants.{Ldp, Stp}
-use Rattle.pa_a64.specs.declared.instr.BranchOp.TheVariants.{B, Bl}
+use Rattle.pa_a64.specs.declared.instr.BranchOp.TheVariants.{Bl}
 use Rattle.pa_a64.specs.declared.instr.BranchRegisterOp.{BranchRegisterOp}
 use Rattle.pa_a64.specs.declared.instr.BranchRegisterOp.TheVariants.{Br, Blr, Ret}
 use Rattle.pa_a64.specs.declared.instr.BranchAuthenticatedOp.{BranchAuthenticatedOp}
