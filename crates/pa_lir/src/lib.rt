@@ -6,6 +6,8 @@ mod code;
 mod counts;
 mod function;
 mod op;
+#[cfg(test)]
+mod tests;
 mod walk;
 
 pub use checks::well_formed;
