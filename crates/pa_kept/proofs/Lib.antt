@@ -1,0 +1,13 @@
+mod Attributes
+mod Unchanged
+mod Sound
+mod Invariant
+mod Steps
+mod Classes
+mod Runs
+mod Locals
+mod Checked
+mod Lists
+mod Located
+mod Pair
+pub mod Begun
