@@ -44,10 +44,13 @@ use Rattle.pa_load.proofs.Slots.{fillable, import_found}
 use Rattle.pa_load.proofs.Whole.{others_are}
 use Rattle.pa_kept.specs.Kept.{CodeAt, EventKept, raw_since, IsKept}
 use Rattle.pa_kept.specs.Images.{code_of}
-use Rattle.pa_kept.specs.Secure.{AreWindowed, watched_run, KeepsControlFlow, Secure}
+use Rattle.pa_kept.specs.Secure.{AreWindowed, watched_run, KeepsControlFlow, Secure, ProgramsSecure}
 use Rattle.pa_kept.proofs.Unchanged.{Same, Still}
 use Rattle.pa_kept.proofs.Sound.{Class, Free, At}
 use Rattle.pa_kept.proofs.Invariant.{Setup, Base, Inv, AllLog}
+use Rattle.pa_pal.specs.Pal.{pal}
+use Rattle.pa_pal.proofs.Legal as pal_legal
+use Rattle.pa_kept.proofs.Runtime.{pal_windowed}
 use Rattle.pa_kept.proofs.Runs.{kept}
 use Rattle.pa_kept.proofs.Located.{passes, none_or, entry_at}
 use Rattle.pa_kept.proofs.Pair.{Pair, images, classes, pair_sound, begins_free, main_lies, runtime_marks}
@@ -245,3 +248,13 @@ secure main runtime ok code slide state l script fits input n = record {
   the_run = (let e : n - 0 ≡ n = omega arith in watched_machine code script n (record { machine = begun_in state input; trail = [] }) ∙ subst (λ k. advance_by code script n (begun_in state input) ≡ advance_by code script k (begun_in state input)) (sym e) refl);
   kept = kept (setup main runtime ok code slide state l) script fits n (record { machine = begun_in state input; trail = [] }) (begins main runtime ok code slide state l input);
 }
+
+pub programs : ProgramsSecure
+programs main legal small windowed = secure main pal (record {
+  main_legal = legal;
+  main_small = small;
+  main_windowed = windowed;
+  runtime_legal = pal_legal.legal;
+  runtime_small = pal_legal.small;
+  runtime_windowed = pal_windowed;
+})

@@ -10,4 +10,5 @@ mod Checked
 mod Lists
 mod Located
 mod Pair
+mod Runtime
 pub mod Begun

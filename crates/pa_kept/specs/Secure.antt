@@ -6,6 +6,7 @@ use Rattle.pa_object.specs.Run.{Script, Watched, watched, run}
 use Rattle.pa_image.specs.declared.image.Image.{Image}
 use Rattle.pa_image.specs.Small.{IsSmall}
 use Rattle.pa_image.specs.Writing.{IsLegal}
+use Rattle.pa_pal.specs.Pal.{pal}
 use Rattle.pa_check.specs.Windowed.{IsWindowed}
 use Rattle.pa_load.specs.Loaded.{State, IsLoaded, begun_in, both}
 use Rattle.pa_kept.specs.Kept.{IsKept}
@@ -35,3 +36,10 @@ Secure =
     (main runtime : Image) → AreWindowed main runtime → (code : Code) (slide : ℕ) (state : State)
     → IsLoaded code main runtime slide state → (script : Script) → all_fit script state.memory ≡ true
     → (input : List ℕ) (n : ℕ) → KeepsControlFlow code main runtime slide state script input n
+
+-- the same of a program alone, with the runtime image that programs bind to
+abbrev pub ProgramsSecure : Type 0
+ProgramsSecure =
+    (main : Image) → IsLegal main → IsSmall main → IsWindowed main → (code : Code) (slide : ℕ) (state : State)
+    → IsLoaded code main pal slide state → (script : Script) → all_fit script state.memory ≡ true
+    → (input : List ℕ) (n : ℕ) → KeepsControlFlow code main pal slide state script input n

@@ -2,9 +2,11 @@
 //! loading and of runs. No code runs it.
 #![tactic(auto)]
 
-ghost use Rattle.pa_kept.specs.Secure.{Secure};
+ghost use Rattle.pa_kept.specs.Secure.{ProgramsSecure, Secure};
 
 /// Control flow is kept: the contract is the theorem.
 pub fn kept_under_every_script()
-    ensures { Secure }
+    // With any windowed runtime image.
+    ensures pairs { Secure }
+    ensures programs { ProgramsSecure }
 {}
