@@ -48,7 +48,7 @@ use Rattle.pa_kept.specs.Secure.{AreWindowed, watched_run, KeepsControlFlow, Sec
 use Rattle.pa_kept.proofs.Unchanged.{Same, Still}
 use Rattle.pa_kept.proofs.Sound.{Class, Free, At}
 use Rattle.pa_kept.proofs.Invariant.{Setup, Base, Inv, AllLog}
-use Rattle.pa_pal.specs.Pal.{pal}
+use Rattle.pa_image.specs.Pal.{pal}
 use Rattle.pa_pal.proofs.Legal as pal_legal
 use Rattle.pa_kept.proofs.Runtime.{pal_windowed}
 use Rattle.pa_kept.proofs.Runs.{kept}

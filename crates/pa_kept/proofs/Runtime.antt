@@ -4,7 +4,7 @@ use Rattle.std.specs.Prelude.{None}
 use Rattle.pa_num.specs.Arithmetic.{add64, scaled64, wrap}
 use Rattle.pa_a64.specs.Decoding.{encoded, decoded, decoded_among, decoded_by}
 use Rattle.pa_a64.specs.Parts.{word, fields}
-use Rattle.pa_pal.specs.Pal.{pal}
+use Rattle.pa_image.specs.Pal.{pal}
 use Rattle.pa_check.specs.Text.{words_from, text_of}
 use Rattle.pa_check.specs.Windows.{reach, spots}
 use Rattle.pa_check.specs.Slots.{first_no_import, first_unsafe}

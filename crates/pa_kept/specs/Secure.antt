@@ -6,7 +6,7 @@ use Rattle.pa_object.specs.Run.{Script, Watched, watched, run}
 use Rattle.pa_image.specs.declared.image.Image.{Image}
 use Rattle.pa_image.specs.Small.{IsSmall}
 use Rattle.pa_image.specs.Writing.{IsLegal}
-use Rattle.pa_pal.specs.Pal.{pal}
+use Rattle.pa_image.specs.Pal.{pal}
 use Rattle.pa_check.specs.Windowed.{IsWindowed}
 use Rattle.pa_load.specs.Loaded.{State, IsLoaded, begun_in, both}
 use Rattle.pa_kept.specs.Kept.{IsKept}
