@@ -12,15 +12,16 @@ use Rattle.pa_tree.specs.Heights.{file_height}
 use Rattle.pa_tree.specs.Stmts.{FileTree}
 use Rattle.pa_reading.specs.Parser.{Stop}
 use Rattle.pa_reading.proofs.Local.{LocalAt, Stops, with_ahead}
-use Rattle.pa_pdecl.specs.Answers.{IsFile, Meant, IsRefused, place, most_levels}
+use Rattle.pa_reading.specs.Answers.{most_levels}
+use Rattle.pa_pdecl.specs.Answers.{IsFile, Meant, IsRefused, place}
 use Rattle.pa_pdecl.specs.Reading.{file}
 use Rattle.pa_pdecl.proofs.Deeper.{file_stops}
 use Rattle.pa_pdecl.proofs.LocalReading.{file-local}
-use Rattle.pa_pdecl.proofs.Complete.{file_is}
+use Rattle.pa_pdecl.proofs.Complete.{file_is, one_file}
 use Rattle.pa_pdecl.proofs.Sound.{file_sound}
 
 pub read_file : (tokens : List Token) (f : FileTree) (e : Cursor) → file most_levels (start tokens) ≡ Ok (f, e) → IsFile tokens f
-read_file tokens f e h = let r = file_sound most_levels f tokens e h in record { spells = r.0; fits = r.1 }
+read_file tokens f e h = let r = file_sound most_levels f tokens e h in record { spells = r.0; fits = r.1; only = λ g s. one_file g f tokens s r.0 }
 
 stops_at : (d : ℕ) (tokens : List Token) (s : Stop) → LocalAt (file d) (start tokens) (file d (start tokens)) → file d (start tokens) ≡ Err s → Stops (file d) (start tokens) s
 stops_at d tokens s h e = rw e at h
