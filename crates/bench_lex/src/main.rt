@@ -1,5 +1,5 @@
 //! Lexes a made text a number of times, to be timed from outside: `bench_lex SHAPE BYTES TIMES`. It prints how many tokens
-//! the text has, or the rule that it breaks.
+//! and names the text has, or the rule that it breaks.
 #![tactic(auto)]
 
 use pa_lex::lex;
@@ -102,7 +102,7 @@ fn main(rt: HostRuntime) -> io::Result<()> {
     }
     for _ in 0..times {
         match lex(rt.alloc(), &text) {
-            Ok(tokens) => println!(rt; "{} tokens", tokens.len())?,
+            Ok(lexed) => println!(rt; "{} tokens, {} names", lexed.tokens.len(), lexed.names.len())?,
             Err(Fault::Refused { rule, place }) => println!(rt; "{rule:?} {place}")?,
             Err(Fault::Memory) => println!(rt; "memory")?,
         }

@@ -122,12 +122,12 @@ fn main(rt: HostRuntime) -> io::Result<()> {
     if text.len() > 4_294_967_295 {
         return Ok(());
     }
-    let Ok(tokens) = lex(rt.alloc(), &text) else {
+    let Ok(lexed) = lex(rt.alloc(), &text) else {
         println!(rt; "no tokens")?;
         return Ok(());
     };
     for _ in 0..times {
-        let answer = outline(rt.alloc(), tokens.as_slice())?;
+        let answer = outline(rt.alloc(), lexed.tokens.as_slice())?;
         println!(rt; "{answer}")?;
     }
     Ok(())

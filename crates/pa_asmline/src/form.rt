@@ -131,173 +131,157 @@ const NEARER: Range = Range {
     step: Step::One,
 };
 
+// The lines that give instructions, once for their names, their operands and their first bytes: `table!(macro, argument)` hands
+// them to a macro. A line is a form with its operation, its name, and what its operands may be, from left to right. Lines
+// stand by the first byte of their names.
+macro_rules! table {
+    ($go:ident, $given:ident) => {
+        $go! { $given;
+            b'a' {
+                SumImmediate(SumImmediateOp::Add) = b"add" [RegisterOrStack, RegisterOrStack, Number(UNSIGNED_12)];
+                SumImmediateShifted(SumImmediateOp::Add) = b"add" [RegisterOrStack, RegisterOrStack, Number(UNSIGNED_12), Shift12];
+                AddPageOffset = b"add" [RegisterOrStack, RegisterOrStack, PageOffset];
+                Sum(SumOp::Add) = b"add" [Register, Register, Register];
+                Logical(LogicalOp::And) = b"and" [Register, Register, Register];
+                Shift(ShiftOp::Asrv) = b"asrv" [Register, Register, Register];
+                Adrp = b"adrp" [Register, Number(PAGES)];
+                AdrpPage = b"adrp" [Register, Page];
+                Stack(StackOp::Autibsp) = b"autibsp" [];
+                Authenticate(AuthenticateOp::Autia) = b"autia" [Register, RegisterOrStack];
+                Authenticate(AuthenticateOp::Autib) = b"autib" [Register, RegisterOrStack];
+                Authenticate(AuthenticateOp::Autda) = b"autda" [Register, RegisterOrStack];
+                Authenticate(AuthenticateOp::Autdb) = b"autdb" [Register, RegisterOrStack];
+                Plain(PlainOp::Autiza) = b"autiza" [Register];
+            }
+            b'b' {
+                Jump = b"b" [Target(NEAR)];
+                Call = b"bl" [Callee(NEAR)];
+                BranchConditional = b"bcond" [Number(CONDITION), Target(NEARER)];
+                BranchRegister(BranchRegisterOp::Br) = b"br" [Register];
+                BranchRegister(BranchRegisterOp::Blr) = b"blr" [Register];
+                BranchAuthenticated(BranchAuthenticatedOp::Braa) = b"braa" [Register, RegisterOrStack];
+                BranchAuthenticated(BranchAuthenticatedOp::Blraa) = b"blraa" [Register, RegisterOrStack];
+                BranchAuthenticated(BranchAuthenticatedOp::Blrab) = b"blrab" [Register, RegisterOrStack];
+                Blraaz = b"blraaz" [Register];
+                Exception(ExceptionOp::Brk) = b"brk" [Number(IMMEDIATE)];
+            }
+            b'c' {
+                Csinc = b"csinc" [Register, Register, Register, Number(CONDITION)];
+                CompareBranch(CompareBranchOp::Cbz) = b"cbz" [Register, Target(NEARER)];
+                CompareBranch(CompareBranchOp::Cbnz) = b"cbnz" [Register, Target(NEARER)];
+            }
+            b'e' {
+                Logical(LogicalOp::Eor) = b"eor" [Register, Register, Register];
+            }
+            b'l' {
+                Shift(ShiftOp::Lslv) = b"lslv" [Register, Register, Register];
+                Shift(ShiftOp::Lsrv) = b"lsrv" [Register, Register, Register];
+                LoadStore(LoadStoreOp::Ldr) = b"ldr" [Register, Base, Offset(UNSIGNED_12_BY_8)];
+                LoadStoreWord(LoadStoreWordOp::Ldrw) = b"ldrw" [Register, Base, Offset(UNSIGNED_12_BY_4)];
+                LoadStoreWord(LoadStoreWordOp::Ldrsw) = b"ldrsw" [Register, Base, Offset(UNSIGNED_12_BY_4)];
+                LoadStoreHalf(LoadStoreHalfOp::Ldrh) = b"ldrh" [Register, Base, Offset(UNSIGNED_12_BY_2)];
+                LoadStoreHalf(LoadStoreHalfOp::Ldrsh) = b"ldrsh" [Register, Base, Offset(UNSIGNED_12_BY_2)];
+                LoadStoreByte(LoadStoreByteOp::Ldrb) = b"ldrb" [Register, Base, Offset(UNSIGNED_12)];
+                LoadStoreByte(LoadStoreByteOp::Ldrsb) = b"ldrsb" [Register, Base, Offset(UNSIGNED_12)];
+                LoadStoreUnscaled(LoadStoreUnscaledOp::Ldur) = b"ldur" [Register, Base, Offset(SIGNED_9)];
+                LoadStorePair(LoadStorePairOp::Ldp) = b"ldp" [Register, Register, Base, Offset(SIGNED_7_BY_8)];
+            }
+            b'm' {
+                MoveWide(MoveWideOp::Movz) = b"movz" [Register, Number(IMMEDIATE)];
+                MoveWide(MoveWideOp::Movn) = b"movn" [Register, Number(IMMEDIATE)];
+                MoveWide(MoveWideOp::Movk) = b"movk" [Register, Number(IMMEDIATE)];
+                MoveWideShifted(MoveWideOp::Movz) = b"movz" [Register, Number(IMMEDIATE), Shift(LEFT_SHIFT)];
+                MoveWideShifted(MoveWideOp::Movn) = b"movn" [Register, Number(IMMEDIATE), Shift(LEFT_SHIFT)];
+                MoveWideShifted(MoveWideOp::Movk) = b"movk" [Register, Number(IMMEDIATE), Shift(LEFT_SHIFT)];
+                MultiplyAdd(MultiplyAddOp::Madd) = b"madd" [Register, Register, Register, Register];
+                MultiplyAdd(MultiplyAddOp::Msub) = b"msub" [Register, Register, Register, Register];
+            }
+            b'n' {
+                Nop = b"nop" [];
+            }
+            b'o' {
+                Logical(LogicalOp::Orr) = b"orr" [Register, Register, Register];
+                Logical(LogicalOp::Orn) = b"orn" [Register, Register, Register];
+            }
+            b'p' {
+                Stack(StackOp::Pacibsp) = b"pacibsp" [];
+                Sign(SignOp::Pacia) = b"pacia" [Register, RegisterOrStack];
+                Sign(SignOp::Pacib) = b"pacib" [Register, RegisterOrStack];
+                Sign(SignOp::Pacda) = b"pacda" [Register, RegisterOrStack];
+                Sign(SignOp::Pacdb) = b"pacdb" [Register, RegisterOrStack];
+                Plain(PlainOp::Paciza) = b"paciza" [Register];
+                Pacga = b"pacga" [Register, Register, RegisterOrStack];
+            }
+            b'r' {
+                BranchRegister(BranchRegisterOp::Ret) = b"ret" [Register];
+                Stack(StackOp::Retab) = b"retab" [];
+            }
+            b's' {
+                SumImmediate(SumImmediateOp::Sub) = b"sub" [RegisterOrStack, RegisterOrStack, Number(UNSIGNED_12)];
+                SumImmediateShifted(SumImmediateOp::Sub) = b"sub" [RegisterOrStack, RegisterOrStack, Number(UNSIGNED_12), Shift12];
+                SubsImmediate = b"subs" [Register, RegisterOrStack, Number(UNSIGNED_12)];
+                SubsImmediateShifted = b"subs" [Register, RegisterOrStack, Number(UNSIGNED_12), Shift12];
+                Sum(SumOp::Sub) = b"sub" [Register, Register, Register];
+                Sum(SumOp::Subs) = b"subs" [Register, Register, Register];
+                Divide(DivideOp::Sdiv) = b"sdiv" [Register, Register, Register];
+                Bitfield(BitfieldOp::Sbfm) = b"sbfm" [Register, Register, Number(BIT), Number(BIT)];
+                LoadStore(LoadStoreOp::Str) = b"str" [Register, Base, Offset(UNSIGNED_12_BY_8)];
+                LoadStoreWord(LoadStoreWordOp::Strw) = b"strw" [Register, Base, Offset(UNSIGNED_12_BY_4)];
+                LoadStoreHalf(LoadStoreHalfOp::Strh) = b"strh" [Register, Base, Offset(UNSIGNED_12_BY_2)];
+                LoadStoreByte(LoadStoreByteOp::Strb) = b"strb" [Register, Base, Offset(UNSIGNED_12)];
+                LoadStoreUnscaled(LoadStoreUnscaledOp::Stur) = b"stur" [Register, Base, Offset(SIGNED_9)];
+                LoadStorePair(LoadStorePairOp::Stp) = b"stp" [Register, Register, Base, Offset(SIGNED_7_BY_8)];
+                Exception(ExceptionOp::Svc) = b"svc" [Number(IMMEDIATE)];
+            }
+            b'u' {
+                Divide(DivideOp::Udiv) = b"udiv" [Register, Register, Register];
+                Bitfield(BitfieldOp::Ubfm) = b"ubfm" [Register, Register, Number(BIT), Number(BIT)];
+            }
+            b'x' {
+                Plain(PlainOp::Xpaci) = b"xpaci" [Register];
+            }
+        }
+    };
+}
+
+macro_rules! name_of {
+    ($form:ident; $($first:literal { $($variant:ident $(($op:ident::$row:ident))? = $name:literal [$($kind:ident $(($range:ident))?),*];)* })*) => {
+        match $form {
+            $($(Form::$variant $(($op::$row))? => $name,)*)*
+        }
+    };
+}
+
+macro_rules! kinds_of {
+    ($form:ident; $($first:literal { $($variant:ident $(($op:ident::$row:ident))? = $name:literal [$($kind:ident $(($range:ident))?),*];)* })*) => {
+        match $form {
+            $($(Form::$variant $(($op::$row))? => &[$(Kind::$kind $(($range))?),*],)*)*
+        }
+    };
+}
+
+macro_rules! forms_by_first {
+    ($byte:ident; $($first:literal { $($variant:ident $(($op:ident::$row:ident))? = $name:literal [$($kind:ident $(($range:ident))?),*];)* })*) => {
+        match $byte {
+            $($first => &[$(Form::$variant $(($op::$row))?),*],)*
+            _ => &[],
+        }
+    };
+}
+
 impl Form {
     /// The name that the line begins with.
     pub fn name(self) -> &'static [u8]
         ensures { result.now ≡ rows.name self }
     {
-        match self {
-            Form::MoveWide(MoveWideOp::Movz) | Form::MoveWideShifted(MoveWideOp::Movz) => b"movz",
-            Form::MoveWide(MoveWideOp::Movn) | Form::MoveWideShifted(MoveWideOp::Movn) => b"movn",
-            Form::MoveWide(MoveWideOp::Movk) | Form::MoveWideShifted(MoveWideOp::Movk) => b"movk",
-            Form::SumImmediate(SumImmediateOp::Add)
-            | Form::SumImmediateShifted(SumImmediateOp::Add)
-            | Form::AddPageOffset
-            | Form::Sum(SumOp::Add) => b"add",
-            Form::SumImmediate(SumImmediateOp::Sub)
-            | Form::SumImmediateShifted(SumImmediateOp::Sub)
-            | Form::Sum(SumOp::Sub) => b"sub",
-            Form::SubsImmediate | Form::SubsImmediateShifted | Form::Sum(SumOp::Subs) => b"subs",
-            Form::Logical(LogicalOp::And) => b"and",
-            Form::Logical(LogicalOp::Orr) => b"orr",
-            Form::Logical(LogicalOp::Eor) => b"eor",
-            Form::Logical(LogicalOp::Orn) => b"orn",
-            Form::MultiplyAdd(MultiplyAddOp::Madd) => b"madd",
-            Form::MultiplyAdd(MultiplyAddOp::Msub) => b"msub",
-            Form::Divide(DivideOp::Udiv) => b"udiv",
-            Form::Divide(DivideOp::Sdiv) => b"sdiv",
-            Form::Shift(ShiftOp::Lslv) => b"lslv",
-            Form::Shift(ShiftOp::Lsrv) => b"lsrv",
-            Form::Shift(ShiftOp::Asrv) => b"asrv",
-            Form::Bitfield(BitfieldOp::Sbfm) => b"sbfm",
-            Form::Bitfield(BitfieldOp::Ubfm) => b"ubfm",
-            Form::Csinc => b"csinc",
-            Form::Adrp | Form::AdrpPage => b"adrp",
-            Form::Nop => b"nop",
-            Form::LoadStore(LoadStoreOp::Ldr) => b"ldr",
-            Form::LoadStore(LoadStoreOp::Str) => b"str",
-            Form::LoadStoreWord(LoadStoreWordOp::Ldrw) => b"ldrw",
-            Form::LoadStoreWord(LoadStoreWordOp::Strw) => b"strw",
-            Form::LoadStoreWord(LoadStoreWordOp::Ldrsw) => b"ldrsw",
-            Form::LoadStoreHalf(LoadStoreHalfOp::Ldrh) => b"ldrh",
-            Form::LoadStoreHalf(LoadStoreHalfOp::Strh) => b"strh",
-            Form::LoadStoreHalf(LoadStoreHalfOp::Ldrsh) => b"ldrsh",
-            Form::LoadStoreByte(LoadStoreByteOp::Ldrb) => b"ldrb",
-            Form::LoadStoreByte(LoadStoreByteOp::Strb) => b"strb",
-            Form::LoadStoreByte(LoadStoreByteOp::Ldrsb) => b"ldrsb",
-            Form::LoadStoreUnscaled(LoadStoreUnscaledOp::Ldur) => b"ldur",
-            Form::LoadStoreUnscaled(LoadStoreUnscaledOp::Stur) => b"stur",
-            Form::LoadStorePair(LoadStorePairOp::Ldp) => b"ldp",
-            Form::LoadStorePair(LoadStorePairOp::Stp) => b"stp",
-            Form::Jump => b"b",
-            Form::Call => b"bl",
-            Form::BranchConditional => b"bcond",
-            Form::CompareBranch(CompareBranchOp::Cbz) => b"cbz",
-            Form::CompareBranch(CompareBranchOp::Cbnz) => b"cbnz",
-            Form::BranchRegister(BranchRegisterOp::Br) => b"br",
-            Form::BranchRegister(BranchRegisterOp::Blr) => b"blr",
-            Form::BranchRegister(BranchRegisterOp::Ret) => b"ret",
-            Form::BranchAuthenticated(BranchAuthenticatedOp::Braa) => b"braa",
-            Form::BranchAuthenticated(BranchAuthenticatedOp::Blraa) => b"blraa",
-            Form::BranchAuthenticated(BranchAuthenticatedOp::Blrab) => b"blrab",
-            Form::Blraaz => b"blraaz",
-            Form::Stack(StackOp::Retab) => b"retab",
-            Form::Stack(StackOp::Pacibsp) => b"pacibsp",
-            Form::Stack(StackOp::Autibsp) => b"autibsp",
-            Form::Sign(SignOp::Pacia) => b"pacia",
-            Form::Sign(SignOp::Pacib) => b"pacib",
-            Form::Sign(SignOp::Pacda) => b"pacda",
-            Form::Sign(SignOp::Pacdb) => b"pacdb",
-            Form::Authenticate(AuthenticateOp::Autia) => b"autia",
-            Form::Authenticate(AuthenticateOp::Autib) => b"autib",
-            Form::Authenticate(AuthenticateOp::Autda) => b"autda",
-            Form::Authenticate(AuthenticateOp::Autdb) => b"autdb",
-            Form::Plain(PlainOp::Paciza) => b"paciza",
-            Form::Plain(PlainOp::Autiza) => b"autiza",
-            Form::Plain(PlainOp::Xpaci) => b"xpaci",
-            Form::Pacga => b"pacga",
-            Form::Exception(ExceptionOp::Svc) => b"svc",
-            Form::Exception(ExceptionOp::Brk) => b"brk",
-        }
+        table!(name_of, self)
     }
 
     /// What its operands may be, from left to right.
     pub fn kinds(self) -> &'static [Kind]
         ensures { result.now ≡ rows.kinds self }
     {
-        match self {
-            Form::MoveWide(_) => &[Kind::Register, Kind::Number(IMMEDIATE)],
-            Form::MoveWideShifted(_) => &[
-                Kind::Register,
-                Kind::Number(IMMEDIATE),
-                Kind::Shift(LEFT_SHIFT),
-            ],
-            Form::SumImmediate(_) => &[
-                Kind::RegisterOrStack,
-                Kind::RegisterOrStack,
-                Kind::Number(UNSIGNED_12),
-            ],
-            Form::SumImmediateShifted(_) => &[
-                Kind::RegisterOrStack,
-                Kind::RegisterOrStack,
-                Kind::Number(UNSIGNED_12),
-                Kind::Shift12,
-            ],
-            Form::AddPageOffset => &[
-                Kind::RegisterOrStack,
-                Kind::RegisterOrStack,
-                Kind::PageOffset,
-            ],
-            Form::SubsImmediate => &[
-                Kind::Register,
-                Kind::RegisterOrStack,
-                Kind::Number(UNSIGNED_12),
-            ],
-            Form::SubsImmediateShifted => &[
-                Kind::Register,
-                Kind::RegisterOrStack,
-                Kind::Number(UNSIGNED_12),
-                Kind::Shift12,
-            ],
-            Form::Sum(_) | Form::Logical(_) | Form::Divide(_) | Form::Shift(_) => &[
-                Kind::Register,
-                Kind::Register,
-                Kind::Register,
-            ],
-            Form::MultiplyAdd(_) => &[
-                Kind::Register,
-                Kind::Register,
-                Kind::Register,
-                Kind::Register,
-            ],
-            Form::Bitfield(_) => &[
-                Kind::Register,
-                Kind::Register,
-                Kind::Number(BIT),
-                Kind::Number(BIT),
-            ],
-            Form::Csinc => &[
-                Kind::Register,
-                Kind::Register,
-                Kind::Register,
-                Kind::Number(CONDITION),
-            ],
-            Form::Adrp => &[Kind::Register, Kind::Number(PAGES)],
-            Form::AdrpPage => &[Kind::Register, Kind::Page],
-            Form::Nop | Form::Stack(_) => &[],
-            Form::LoadStore(_) => &[Kind::Register, Kind::Base, Kind::Offset(UNSIGNED_12_BY_8)],
-            Form::LoadStoreWord(_) => &[Kind::Register, Kind::Base, Kind::Offset(UNSIGNED_12_BY_4)],
-            Form::LoadStoreHalf(_) => &[Kind::Register, Kind::Base, Kind::Offset(UNSIGNED_12_BY_2)],
-            Form::LoadStoreByte(_) => &[Kind::Register, Kind::Base, Kind::Offset(UNSIGNED_12)],
-            Form::LoadStoreUnscaled(_) => &[Kind::Register, Kind::Base, Kind::Offset(SIGNED_9)],
-            Form::LoadStorePair(_) => &[
-                Kind::Register,
-                Kind::Register,
-                Kind::Base,
-                Kind::Offset(SIGNED_7_BY_8),
-            ],
-            Form::Jump => &[Kind::Target(NEAR)],
-            Form::Call => &[Kind::Callee(NEAR)],
-            Form::BranchConditional => &[Kind::Number(CONDITION), Kind::Target(NEARER)],
-            Form::CompareBranch(_) => &[Kind::Register, Kind::Target(NEARER)],
-            Form::BranchRegister(_) | Form::Blraaz | Form::Plain(_) => &[Kind::Register],
-            Form::BranchAuthenticated(_) | Form::Sign(_) | Form::Authenticate(_) => &[
-                Kind::Register,
-                Kind::RegisterOrStack,
-            ],
-            Form::Pacga => &[Kind::Register, Kind::Register, Kind::RegisterOrStack],
-            Form::Exception(_) => &[Kind::Number(IMMEDIATE)],
-        }
+        table!(kinds_of, self)
     }
 }
 
@@ -305,101 +289,5 @@ impl Form {
 pub fn forms_at(first: u8) -> &'static [Form]
     ensures { result.now ≡ rows.forms_at first }
 {
-    match first {
-        b'a' => &[
-            Form::SumImmediate(SumImmediateOp::Add),
-            Form::SumImmediateShifted(SumImmediateOp::Add),
-            Form::AddPageOffset,
-            Form::Sum(SumOp::Add),
-            Form::Logical(LogicalOp::And),
-            Form::Shift(ShiftOp::Asrv),
-            Form::Adrp,
-            Form::AdrpPage,
-            Form::Stack(StackOp::Autibsp),
-            Form::Authenticate(AuthenticateOp::Autia),
-            Form::Authenticate(AuthenticateOp::Autib),
-            Form::Authenticate(AuthenticateOp::Autda),
-            Form::Authenticate(AuthenticateOp::Autdb),
-            Form::Plain(PlainOp::Autiza),
-        ],
-        b'b' => &[
-            Form::Jump,
-            Form::Call,
-            Form::BranchConditional,
-            Form::BranchRegister(BranchRegisterOp::Br),
-            Form::BranchRegister(BranchRegisterOp::Blr),
-            Form::BranchAuthenticated(BranchAuthenticatedOp::Braa),
-            Form::BranchAuthenticated(BranchAuthenticatedOp::Blraa),
-            Form::BranchAuthenticated(BranchAuthenticatedOp::Blrab),
-            Form::Blraaz,
-            Form::Exception(ExceptionOp::Brk),
-        ],
-        b'c' => &[
-            Form::Csinc,
-            Form::CompareBranch(CompareBranchOp::Cbz),
-            Form::CompareBranch(CompareBranchOp::Cbnz),
-        ],
-        b'e' => &[Form::Logical(LogicalOp::Eor)],
-        b'l' => &[
-            Form::Shift(ShiftOp::Lslv),
-            Form::Shift(ShiftOp::Lsrv),
-            Form::LoadStore(LoadStoreOp::Ldr),
-            Form::LoadStoreWord(LoadStoreWordOp::Ldrw),
-            Form::LoadStoreWord(LoadStoreWordOp::Ldrsw),
-            Form::LoadStoreHalf(LoadStoreHalfOp::Ldrh),
-            Form::LoadStoreHalf(LoadStoreHalfOp::Ldrsh),
-            Form::LoadStoreByte(LoadStoreByteOp::Ldrb),
-            Form::LoadStoreByte(LoadStoreByteOp::Ldrsb),
-            Form::LoadStoreUnscaled(LoadStoreUnscaledOp::Ldur),
-            Form::LoadStorePair(LoadStorePairOp::Ldp),
-        ],
-        b'm' => &[
-            Form::MoveWide(MoveWideOp::Movz),
-            Form::MoveWide(MoveWideOp::Movn),
-            Form::MoveWide(MoveWideOp::Movk),
-            Form::MoveWideShifted(MoveWideOp::Movz),
-            Form::MoveWideShifted(MoveWideOp::Movn),
-            Form::MoveWideShifted(MoveWideOp::Movk),
-            Form::MultiplyAdd(MultiplyAddOp::Madd),
-            Form::MultiplyAdd(MultiplyAddOp::Msub),
-        ],
-        b'n' => &[Form::Nop],
-        b'o' => &[Form::Logical(LogicalOp::Orr), Form::Logical(LogicalOp::Orn)],
-        b'p' => &[
-            Form::Stack(StackOp::Pacibsp),
-            Form::Sign(SignOp::Pacia),
-            Form::Sign(SignOp::Pacib),
-            Form::Sign(SignOp::Pacda),
-            Form::Sign(SignOp::Pacdb),
-            Form::Plain(PlainOp::Paciza),
-            Form::Pacga,
-        ],
-        b'r' => &[
-            Form::BranchRegister(BranchRegisterOp::Ret),
-            Form::Stack(StackOp::Retab),
-        ],
-        b's' => &[
-            Form::SumImmediate(SumImmediateOp::Sub),
-            Form::SumImmediateShifted(SumImmediateOp::Sub),
-            Form::SubsImmediate,
-            Form::SubsImmediateShifted,
-            Form::Sum(SumOp::Sub),
-            Form::Sum(SumOp::Subs),
-            Form::Divide(DivideOp::Sdiv),
-            Form::Bitfield(BitfieldOp::Sbfm),
-            Form::LoadStore(LoadStoreOp::Str),
-            Form::LoadStoreWord(LoadStoreWordOp::Strw),
-            Form::LoadStoreHalf(LoadStoreHalfOp::Strh),
-            Form::LoadStoreByte(LoadStoreByteOp::Strb),
-            Form::LoadStoreUnscaled(LoadStoreUnscaledOp::Stur),
-            Form::LoadStorePair(LoadStorePairOp::Stp),
-            Form::Exception(ExceptionOp::Svc),
-        ],
-        b'u' => &[
-            Form::Divide(DivideOp::Udiv),
-            Form::Bitfield(BitfieldOp::Ubfm),
-        ],
-        b'x' => &[Form::Plain(PlainOp::Xpaci)],
-        _ => &[],
-    }
+    table!(forms_by_first, first)
 }

@@ -1,13 +1,12 @@
 -- The cells of an object lie apart, ascending, inside its size.
-use Rattle.std.proofs.Common.{◌≡◌, ℕ, zero, suc, ◌+◌, ◌*◌, ◌≤◌, ◌<◌, Bool, true, false, ◌||◌, List, [], ◌∷◌, ◌++◌, Option, Some, None, length, refl, sym, ◌∙◌, ap, subst, arith, zero-mul, suc-mul}
-use Rattle.std.specs.Option.{option_and_then}
+use Rattle.std.proofs.Common.{◌≡◌, ℕ, zero, suc, ◌+◌, ◌*◌, ◌≤◌, ◌<◌, Bool, true, false, ◌||◌, List, [], ◌∷◌, ◌++◌, Option, Some, None, length, sym, ap, subst, arith, suc-mul}
 use Rattle.std.specs.Int.{next_multiple_of}
 use Rattle.pa_ctype.specs.declared.ctype.Layout.{Layout}
 use Rattle.pa_ctype.specs.Types.{TypeTree, Of, FormTree, Void, Boolean, Integer, Pointer, Array, Struct, Function}
 use Rattle.pa_ctype.specs.Kept.{AreFine}
-use Rattle.pa_ctype.specs.Layouts.{Field, Body, Table, body_of, times, placed, empty, padded, members_from, struct_layout, layout_by, form_layout_by, laid, layout_in}
+use Rattle.pa_ctype.specs.Layouts.{Body, Table, body_of, times, placed, empty, padded, members_from, struct_layout, layout_by, form_layout_by, laid, layout_in}
 use Rattle.pa_ctype.specs.Values.{Owner, Cell, Object, elements, elements_of, member_cells_by, member_cells, scalar, cells_by, form_cells_by, body_cells, cells_of, cells_in, fresh}
-use Rattle.pa_ctype.proofs.Kept.{members_at_least, multiple_at_least}
+use Rattle.pa_ctype.proofs.Laying.{members_at_least, multiple_at_least}
 use Rattle.pa_ctype.proofs.Laws.{then_some, small_is, layout_by_fine, structs_at, structs_fine, laid_fine}
 
 -- one behind the other, from the first place on and before the second

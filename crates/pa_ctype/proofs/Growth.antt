@@ -1,15 +1,13 @@
 -- A table of structs stays sound, and types keep their layouts, when a struct is added and when one gets its body.
-use Rattle.std.proofs.Common.{◌≡◌, ℕ, zero, suc, ◌≤◌, List, [], ◌∷◌, ◌++◌, Option, Some, None, option_map, refl, sym, ◌∙◌, ap, subst, length, map, arith, ◌⊎◌, inl, inr}
+use Rattle.std.proofs.Common.{◌≡◌, ℕ, zero, suc, ◌+◌, ◌≤◌, cond, List, [], ◌∷◌, ◌++◌, Some, None, refl, sym, ◌∙◌, ap, length, map, arith}
 use Rattle.std.specs.Option.{option_and_then}
+use Rattle.std.specs.Int.{next_multiple_of}
+use Rattle.std.specs.Str.{bytes_eq}
 use Rattle.std.specs.List.{slice_get, slice_set}
-use Rattle.std.proofs.lemmas.Option.{slice_get-map}
 use Rattle.pa_ctype.specs.declared.ctype.Layout.{Layout}
-use Rattle.pa_ctype.specs.declared.ctype.Held.{Held}
 use Rattle.pa_ctype.specs.declared.ctype.Member.{Member}
-use Rattle.pa_ctype.specs.declared.structs.LaidBody.{LaidBody}
-use Rattle.pa_ctype.specs.Types.{TypeTree, type_tree, id_bound}
-use Rattle.pa_ctype.specs.Kept.{members_of, IsKeptBody, IsKept}
-use Rattle.pa_ctype.specs.Layouts.{Body, Table, body_of, placed, empty, padded, members_from, struct_layout, laid, HasLayout, layout_in, IsComplete, HasMember, fields_of, table_of, IsSoundBody}
+use Rattle.pa_ctype.specs.Types.{TypeTree}
+use Rattle.pa_ctype.specs.Layouts.{Body, Table, body_of, placed, empty, padded, members_from, struct_layout, laid, HasLayout, layout_in, IsComplete, member_from, HasMember, IsSoundBody}
 use Rattle.pa_ctype.proofs.Depth.{layout_is, member_from_keeps}
 use Rattle.pa_ctype.proofs.Laws.{Keeps, then_some, layout_by_keeps, structs_at, struct_layout_keeps}
 
@@ -59,9 +57,14 @@ pub struct_extends : (table more : Table) (body : Body) → Extends table more �
 struct_extends table more [] h k = refl
 struct_extends table more (field ∷ body) h k = ap (option_and_then padded) (members_extend table more empty (field ∷ body) h k)
 
-pub kept_extends : (table more : Table) (body : LaidBody) → Extends table more → IsKeptBody table body → IsKeptBody more body
-kept_extends table more body h k =
-    record { sound = sound_extends table more (fields_of body.members) h k.sound; layout = k.layout ∙ sym (struct_extends table more (fields_of body.members) h k.sound) }
+-- so are members' places
+pub places_extend : (table more : Table) (name : List ℕ) (so_far : Layout) (index : ℕ) (body : Body) → Extends table more → IsSoundBody table body → member_from (layout_in more) name so_far index body ≡ member_from (layout_in table) name so_far index body
+unfolding IsSoundBody member_from
+places_extend table more name so_far index [] h k = refl
+places_extend table more name so_far index (field ∷ body) h k =
+    let (l, c) = k.0.complete in
+    rw (layout_is table field.of l c, layout_is more field.of l (layout_extends table more field.of l h c))
+    (ap (cond (bytes_eq field.name name) (Some (record { offset = next_multiple_of so_far.size l.align; index = index }))) (places_extend table more name (placed so_far l) (index + 1) body h k.1))
 
 -- the structs of both tables, by their ids
 pub get_before : {A : Type 0} (a b : List A) (id : ℕ) (x : A) → slice_get a id ≡ Some x → slice_get (a ++ b) id ≡ Some x
@@ -81,22 +84,6 @@ count_more (x ∷ a) b = omega (arith, count_more a b)
 pub extends_more : (a b : Table) → Extends a (a ++ b)
 extends_more a b = record { bodies = bodies_more a b; count = count_more a b }
 
--- one more struct, without a body
-get_push : (bodies : List (Option LaidBody)) (id : ℕ) (body : LaidBody) → slice_get (bodies ++ None ∷ []) id ≡ Some (Some body) → slice_get bodies id ≡ Some (Some body)
-get_push [] zero body e = cc
-get_push [] (suc id) body e = cc
-get_push (x ∷ bodies) zero body e = e
-get_push (x ∷ bodies) (suc id) body e = get_push bodies id body e
-
-table_push : (bodies : List (Option LaidBody)) → table_of (members_of bodies) ++ None ∷ [] ≡ table_of (members_of (bodies ++ None ∷ []))
-table_push [] = refl
-table_push (x ∷ bodies) = ap (λ t. option_map fields_of (option_map (λ body. body.members) x) ∷ t) (table_push bodies)
-
-pub kept_push : (bodies : List (Option LaidBody)) → IsKept bodies → IsKept (bodies ++ None ∷ [])
-kept_push bodies h id body e =
-    subst (λ t. IsKeptBody t body) (table_push bodies)
-    (kept_extends (table_of (members_of bodies)) (table_of (members_of bodies) ++ None ∷ []) body (extends_more (table_of (members_of bodies)) (None ∷ [])) (h id body (get_push bodies id body e)))
-
 -- a body for a struct that has none
 bodies_set : (table : Table) (id : ℕ) (new : Body) → slice_get table id ≡ Some None → (other : ℕ) (body : Body) → body_of table other ≡ Some body → body_of (slice_set table id (Some new)) other ≡ Some body
 bodies_set [] id new at other body e = cc
@@ -113,44 +100,7 @@ count_set (y ∷ xs) (suc id) x = omega (arith, count_set xs id x)
 pub extends_set : (table : Table) (id : ℕ) (new : Body) → slice_get table id ≡ Some None → Extends table (slice_set table id (Some new))
 extends_set table id new at = record { bodies = bodies_set table id new at; count = count_set table id (Some new) }
 
-get_set : (bodies : List (Option LaidBody)) (id other : ℕ) (new found : LaidBody) → slice_get (slice_set bodies id (Some new)) other ≡ Some (Some found) → (slice_get bodies other ≡ Some (Some found)) ⊎ (new ≡ found)
-get_set [] id other new found e = cc
-get_set (x ∷ bodies) zero zero new found e = inr (let z : Some new ≡ Some found = cc in cc)
-get_set (x ∷ bodies) zero (suc other) new found e = inl e
-get_set (x ∷ bodies) (suc id) zero new found e = inl e
-get_set (x ∷ bodies) (suc id) (suc other) new found e = get_set bodies id other new found e
-
 pub map_set : {A B : Type 0} (f : A → B) (xs : List A) (i : ℕ) (x : A) → map f (slice_set xs i x) ≡ slice_set (map f xs) i (f x)
 map_set f [] i x = refl
 map_set f (y ∷ xs) zero x = refl
 map_set f (y ∷ xs) (suc i) x = ap (λ l. f y ∷ l) (map_set f xs i x)
-
-pub members_set : (bodies : List (Option LaidBody)) (id : ℕ) (new : LaidBody) → members_of (slice_set bodies id (Some new)) ≡ slice_set (members_of bodies) id (Some new.members)
-members_set bodies id new = map_set (option_map (λ body. body.members)) bodies id (Some new)
-
-table_set : (bodies : List (Option LaidBody)) (id : ℕ) (new : LaidBody) → table_of (members_of (slice_set bodies id (Some new))) ≡ slice_set (table_of (members_of bodies)) id (Some (fields_of new.members))
-table_set bodies id new = ap table_of (members_set bodies id new) ∙ map_set (option_map fields_of) (members_of bodies) id (Some new.members)
-
-open_at : (members : List (Option (List Held))) (id : ℕ) → slice_get members id ≡ Some None → slice_get (table_of members) id ≡ Some None
-open_at members id e = slice_get-map (option_map fields_of) members id ∙ ap (option_map (option_map fields_of)) e
-
-pub kept_set : (bodies : List (Option LaidBody)) (id : ℕ) (new : LaidBody) → slice_get (members_of bodies) id ≡ Some None → IsKept bodies → IsKeptBody (table_of (members_of bodies)) new → IsKept (slice_set bodies id (Some new))
-kept_set bodies id new at h k other found e = subst (λ t. IsKeptBody t found) (sym (table_set bodies id new)) (by_place (get_set bodies id other new found e))
-  where
-    grown : Extends (table_of (members_of bodies)) (slice_set (table_of (members_of bodies)) id (Some (fields_of new.members)))
-    grown = extends_set (table_of (members_of bodies)) id (fields_of new.members) (open_at (members_of bodies) id at)
-
-    by_place : (slice_get bodies other ≡ Some (Some found)) ⊎ (new ≡ found) → IsKeptBody (slice_set (table_of (members_of bodies)) id (Some (fields_of new.members))) found
-    by_place (inl old) = kept_extends (table_of (members_of bodies)) (slice_set (table_of (members_of bodies)) id (Some (fields_of new.members))) found grown (h other found old)
-    by_place (inr same) = kept_extends (table_of (members_of bodies)) (slice_set (table_of (members_of bodies)) id (Some (fields_of new.members))) found grown (subst (IsKeptBody (table_of (members_of bodies))) same k)
-
--- one more member
-pub member_push : (table : Table) (members : List Held) (held : Held) → IsSoundBody table (fields_of members) → IsComplete table (type_tree held.of) → id_bound (type_tree held.of) ≤ length table → IsSoundBody table (fields_of (members ++ held ∷ []))
-unfolding IsSoundBody
-member_push table [] held k c n = (record { complete = c; known = n }, tt)
-member_push table (x ∷ members) held k c n = (k.0, member_push table members held k.1 c n)
-
--- what is pushed is the last one
-pub get_last : {A : Type 0} (xs : List A) (x : A) → slice_get (xs ++ x ∷ []) (length xs) ≡ Some x
-get_last [] x = refl
-get_last (y ∷ xs) x = get_last xs x

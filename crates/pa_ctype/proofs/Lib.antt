@@ -1,14 +1,19 @@
-pub mod Bounds
-pub mod Cells
-pub mod Copies
-pub mod Depth
-pub mod Examples
-pub mod Growth
-pub mod Kept
+mod Answering
+mod Cells
+mod Constants
+mod Depth
+mod Examples
+mod Extents
+mod Finding
+mod Functions
+mod Growth
+mod KeptGrowth
+mod KindLaws
 pub mod Laws
+pub mod Laying
+mod NodeTable
 pub mod Objects
-pub mod Raised
-pub mod Results
-pub mod Sameness
-pub mod Variants
-pub mod Views
+mod RaisedLaws
+mod Results
+mod Sameness
+mod TypeLaws

@@ -71,3 +71,11 @@ laid_ends table id (field ∷ body) h e =
 pub struct_is_laid : (table : Table) (t : TypeTree) (id : ℕ) (r : Option Layout) → t ≡ Of false (Struct id) → IsLayoutOf table t r → IsSome r → IsLaidStruct table id
 struct_is_laid table t id None e a s = cc
 struct_is_laid table t id (Some l) e a s = λ body b. (l, subst (λ x. HasLayout table x l) e a.0)
+
+-- so do the members of a struct that has a layout
+pub struct_ends : (lay : TypeTree → Option Layout) (body : Body) (l : Layout) → struct_layout lay body ≡ Some l → EndsWithin lay empty body
+struct_ends lay [] l e = cc
+struct_ends lay (field ∷ body) l e =
+    let (end, p, q) = then_some padded (members_from lay empty (field ∷ body)) l e in
+    let s = small_is (record { size = next_multiple_of end.size end.align; align = end.align }) l q in
+    record { end = end; ends = p; within = let z = s.1 in omega arith }

@@ -1,16 +1,13 @@
 -- What is said to be the same is equal, and what is equal is said to be.
-use Rattle.std.proofs.Common.{◌≡◌, ℕ, suc, ◌+◌, ◌-◌, ◌≤◌, ◌<◌, Bool, true, false, ◌&&◌, ◌==◌, List, [], ◌∷◌, length, map, take, drop, get_or, Option, Some, None, refl, sym, ◌∙◌, ap, arith}
+use Rattle.std.proofs.Common.{◌≡◌, ℕ, Bool, true, false, ◌&&◌, ◌==◌, Option, Some, None, refl, sym, ap, ◌∙◌}
 use Rattle.std.proofs.lemmas.Bool.{eqb-true, eq-eqb}
-use Rattle.std.proofs.lemmas.List.{take_all, drop_all}
-use Rattle.std.proofs.Math.Dec.{eqb-suc-zero}
-use Rattle.std.proofs.Math.Seq.{drop-cons}
 use Rattle.pa_pac.specs.declared.key.Key.{Key}
 use Rattle.pa_pac.specs.declared.key.Key.TheVariants.{IA, IB, DA, DB, GA}
 use Rattle.pa_pac.specs.declared.schema.Schema.{Schema}
 use Rattle.pa_pac.specs.Key.{key_number, same_key}
-use Rattle.pa_ctype.specs.declared.ctype.CType.{CType}
-use Rattle.pa_ctype.specs.Types.{type_tree, trees_of, TypeTree, Of, FormTree, Void, Boolean, Integer, Pointer, Array, Struct, Function, TypeTrees, Nil, Cons}
-use Rattle.pa_ctype.specs.Equality.{same_bool, same_schema, same_count, same_type, same_form, same_types}
+use Rattle.pa_ctype.specs.Types.{TypeTree, Of, FormTree, Void, Boolean, Integer, Pointer, Array, Struct, Function, TypeTrees, Nil, Cons}
+use Rattle.pa_ctype.specs.Equality.{same_bool, same_schema, same_count, same_type, same_form, same_types, same_but_const}
+use Rattle.pa_ctype.specs.Qualifiers.{without_const}
 
 both_true : (a b : Bool) → (a && b) ≡ true → (a ≡ true) × (b ≡ true)
 both_true true b e = (refl, e)
@@ -109,37 +106,17 @@ mutual
   types_self Nil = refl
   types_self (Cons a ps) = true_both (same_type a a) (same_types ps ps) (type_self a) (types_self ps)
 
--- types in order, one at a time
-abbrev all : List CType → TypeTrees
-all types = trees_of (map type_tree types)
+-- so a test of what stands for the types tells too
+pub same_by : (i j : ℕ) (a b : TypeTree) → (i ≡ j → a ≡ b) → (a ≡ b → i ≡ j) → (i == j) ≡ same_type a b
+same_by i j a b go back = by (i == j) refl (same_type a b) refl
+  where
+    by : (x : Bool) → (i == j) ≡ x → (y : Bool) → same_type a b ≡ y → (i == j) ≡ same_type a b
+    by true e true f = e ∙ sym f
+    by false e false f = e ∙ sym f
+    by true e false f = eq-eqb i j (back (go (eqb-true i j e))) ∙ sym (ap (same_type a) (sym (go (eqb-true i j e))) ∙ type_self a)
+    by false e true f = eq-eqb i j (back (type_is a b f)) ∙ sym f
 
-pub types_step : (a others : List CType) (i n : ℕ) (first other : CType) → i < length a → first ≡ get_or a i first → 1 ≤ length others → n ≡ length others → other ≡ get_or others 0 other → same_type (type_tree first) (type_tree other) ≡ true
-    → same_types (trees_of (map type_tree (drop i a))) (trees_of (map type_tree others)) ≡ same_types (trees_of (map type_tree (drop (i + 1) a))) (trees_of (map type_tree (take (n - 1) (drop 1 others))))
-unfolding same_types
-types_step a [] i n first other l at m k is e = absurd (omega arith)
-types_step a (o ∷ others) i n first other l at m k is e =
-    let d : drop i a ≡ first ∷ drop (suc i) a = drop-cons a i first l ∙ ap (λ x. x ∷ drop (suc i) a) (sym at) in
-    let q : n - 1 ≡ length others = omega arith in
-    let r : take (n - 1) others ≡ others = ap (λ n. take n others) q ∙ take_all (length others) others (omega arith) in
-    let s : same_type (type_tree first) (type_tree o) ≡ true = sym (ap (λ x. same_type (type_tree first) (type_tree x)) is) ∙ e in
-    let z : suc i ≡ i + 1 = omega arith in
-    ap (λ x. same_types (all x) (all (o ∷ others))) d ∙ ap (λ b. b && same_types (all (drop (suc i) a)) (all others)) s ∙ ap (λ j. same_types (all (drop j a)) (all others)) z ∙ ap (λ x. same_types (all (drop (i + 1) a)) (all x)) (sym r)
-
-pub types_short : (a others : List CType) (i : ℕ) (first : CType) → i < length a → length others < 1 → same_types (trees_of (map type_tree (drop i a))) (trees_of (map type_tree others)) ≡ false
-unfolding same_types
-types_short a [] i first l h = ap (λ x. same_types (all x) Nil) (drop-cons a i first l)
-types_short a (o ∷ others) i first l h = absurd (omega arith)
-
-pub types_differ : (a others : List CType) (i : ℕ) (first other : CType) → i < length a → first ≡ get_or a i first → 1 ≤ length others → other ≡ get_or others 0 other → same_type (type_tree first) (type_tree other) ≡ false
-    → same_types (trees_of (map type_tree (drop i a))) (trees_of (map type_tree others)) ≡ false
-unfolding same_types
-types_differ a [] i first other l at m is e = absurd (omega arith)
-types_differ a (o ∷ others) i first other l at m is e =
-    let d : drop i a ≡ first ∷ drop (suc i) a = drop-cons a i first l ∙ ap (λ x. x ∷ drop (suc i) a) (sym at) in
-    let s : same_type (type_tree first) (type_tree o) ≡ false = sym (ap (λ x. same_type (type_tree first) (type_tree x)) is) ∙ e in
-    ap (λ x. same_types (all x) (all (o ∷ others))) d ∙ ap (λ b. b && same_types (all (drop (suc i) a)) (all others)) s
-
-pub types_end : (a others : List CType) (i : ℕ) → length a ≤ i → (length others == 0) ≡ same_types (trees_of (map type_tree (drop i a))) (trees_of (map type_tree others))
-unfolding same_types
-types_end a [] i l = sym (ap (λ x. same_types (all x) Nil) (drop_all i a l))
-types_end a (o ∷ others) i l = eqb-suc-zero (length others) ∙ sym (ap (λ x. same_types (all x) (all (o ∷ others))) (drop_all i a l))
+-- but for a `const` of their own
+pub same_plain : (a b : TypeTree) → same_type (without_const a) (without_const b) ≡ same_but_const a b
+unfolding same_type
+same_plain (Of c form) (Of d other) = refl

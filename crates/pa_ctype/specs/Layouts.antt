@@ -7,7 +7,7 @@ use Rattle.std.specs.Str.{bytes_eq}
 use Rattle.pa_ctype.specs.declared.ctype.Layout.{Layout}
 use Rattle.pa_ctype.specs.declared.ctype.Held.{Held}
 use Rattle.pa_ctype.specs.declared.ctype.Member.{Member}
-use Rattle.pa_ctype.specs.Types.{TypeTree, Of, FormTree, Void, Boolean, Integer, Pointer, Array, Struct, Function, type_tree, id_bound}
+use Rattle.pa_ctype.specs.Types.{TypeTree, Of, FormTree, Void, Boolean, Integer, Pointer, Array, Struct, Function, id_bound}
 
 -- a member, the members of a struct, and the structs by their ids
 pub record Field : Type 0 where
@@ -128,15 +128,16 @@ member_of table id name = option_and_then (member_from (laid (length table) tabl
 abbrev pub LacksMember : Table → ℕ → List ℕ → Type 0
 LacksMember table id name = (body : Body) → body_of table id ≡ Some body → list_all (λ field. not (bytes_eq field.name name)) body ≡ true
 
--- structs of the program as plain data
-abbrev pub field_of : Held → Field
-field_of held = record { name = held.name; of = type_tree held.of }
+-- structs of the program as plain data, where numbers stand for these names and types
+module _ (names : ℕ → List ℕ) (m : ℕ → TypeTree) where
+  abbrev pub field_of : Held → Field
+  field_of held = record { name = names held.name; of = m held.of }
 
-abbrev pub fields_of : List Held → Body
-fields_of = map field_of
+  abbrev pub fields_of : List Held → Body
+  fields_of = map field_of
 
-abbrev pub table_of : List (Option (List Held)) → Table
-table_of = map (option_map fields_of)
+  abbrev pub table_of : List (Option (List Held)) → Table
+  table_of = map (option_map fields_of)
 
 -- a member's type is complete and names structs of the table only
 pub record IsSoundField (table : Table) (field : Field) : Type 0 where

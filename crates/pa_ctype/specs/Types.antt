@@ -1,9 +1,6 @@
 -- Types of C (C11 6.2.5) as plain data.
 use Rattle.std.specs.Prelude.{ℕ, suc, max, Bool, List, [], ◌∷◌, Option}
 use Rattle.pa_pac.specs.declared.schema.Schema.{Schema}
-use Rattle.pa_ctype.specs.declared.ctype.CType.{CType, fold-CType}
-use Rattle.pa_ctype.specs.declared.ctype.Form.TheOpen.{CType-F, Form-F}
-use Rattle.pa_ctype.specs.declared.ctype.Form.{Form, fold-Form}
 
 mutual
   pub data TypeTree : Type 0 where
@@ -26,25 +23,6 @@ abbrev pub trees_of : List TypeTree → TypeTrees
 trees_of [] = Nil
 trees_of (t ∷ ts) = Cons t (trees_of ts)
 
-abbrev pub type_layer : CType-F FormTree TypeTree → TypeTree
-type_layer t = Of t.constant t.form
-
-abbrev pub form_layer : Form-F FormTree TypeTree → FormTree
-form_layer Form-F.Void = Void
-form_layer Form-F.Bool = Boolean
-form_layer (Form-F.Int bits signed) = Integer bits signed
-form_layer (Form-F.Pointer to schema) = Pointer to schema
-form_layer (Form-F.Array of count) = Array of count
-form_layer (Form-F.Struct id) = Struct id
-form_layer (Form-F.Function params result) = Function (trees_of params) result
-
--- a type of the program
-unfoldable pub type_tree : CType → TypeTree
-type_tree = fold-CType FormTree TypeTree form_layer type_layer
-
-unfoldable pub form_tree : Form → FormTree
-form_tree = fold-Form FormTree TypeTree form_layer type_layer
-
 -- ids of structs in the type are below this: one more than the largest, or 0 where there is none
 unfoldable mutual
   pub id_bound : TypeTree → ℕ
@@ -62,3 +40,21 @@ unfoldable mutual
   pub ids_bound : TypeTrees → ℕ
   ids_bound Nil = 0
   ids_bound (Cons first rest) = max (id_bound first) (ids_bound rest)
+
+-- how deep a type is: pointers, arrays and functions on the longest way down
+unfoldable mutual
+  pub type_depth : TypeTree → ℕ
+  type_depth (Of constant form) = form_depth form
+
+  pub form_depth : FormTree → ℕ
+  form_depth Void = 0
+  form_depth Boolean = 0
+  form_depth (Integer bits signed) = 0
+  form_depth (Pointer to schema) = suc (type_depth to)
+  form_depth (Array of count) = suc (type_depth of)
+  form_depth (Struct id) = 0
+  form_depth (Function params result) = suc (max (types_depth params) (type_depth result))
+
+  pub types_depth : TypeTrees → ℕ
+  types_depth Nil = 0
+  types_depth (Cons first rest) = max (type_depth first) (types_depth rest)

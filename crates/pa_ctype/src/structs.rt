@@ -1,167 +1,173 @@
-ghost use Rattle.std.specs.Prelude.{◌≡◌, [], ◌∷◌, ◌++◌, ◌+◌, ◌<◌, ◌^◌, ◌↔◌, length, map, slice_get, slice_set, Some, None, IsTrue, IfOk, OnOk, OnErr};
+//! Layouts of types and structs by what is kept of them.
+
+ghost use Rattle.std.specs.Prelude.{◌≡◌, ◌≤◌, ◌<◌, ◌==◌, if◌then◌else◌, ℕ, length, Some, None, IfOk, OnOk, IfSome, nat_eq};
 ghost use Rattle.std.specs.Option.{option_copied, option_and_then};
+ghost use Rattle.indexmap.specs.IndexMap.{keys, values, get};
 ghost use Rattle.pa_ctype.specs.Kept as kept;
+ghost use Rattle.pa_ctype.specs.Nodes.{IsTable, at};
+ghost use Rattle.pa_ctype.specs.Tables.{types_bound};
 ghost use Rattle.pa_ctype.specs.Layouts as spec;
-ghost use Rattle.pa_ctype.specs.Raised as spec_raised;
 
-use crate::copy::raised_type;
-use crate::ctype::{Held, Layout, Members};
-use crate::sizes::{body_of, struct_layout};
-use pa_num::{Memory, Name};
-use sqlite_items::Items;
-use std::alloc::{AllocError, Global};
-use std::marker::Model;
+use crate::ctype::{Held, Layout, Member, Members};
+use crate::layouts::{MOST_BYTES, padded, placed, times};
+use crate::node::Extent;
+use crate::nodes::{Nodes, facts_at};
+use indexmap::IndexMap;
+use pa_num::Memory;
+use std::alloc::Global;
 
-/// The body of a struct, with the layout of the struct: None where it has none.
+/// Places of members by the numbers of their names.
+pub(crate) type Places = IndexMap<u32, Member>;
+
+/// The body of a struct, with the layout of the struct, None where it has none, and where it has one the places of members.
 #[derive(Drop)]
 pub(crate) struct LaidBody {
     pub(crate) members: Members,
     pub(crate) layout: Option<Layout>,
+    pub(crate) places: Places,
 }
 
-/// The structs of a file or a program by their ids, which count from 0, each with its members or without a body. Each type in
-/// a body is complete (C11 6.2.5p1), so no struct holds itself, and names structs of this table only.
-#[derive(Drop)]
-pub struct Structs {
-    pub(crate) bodies: Items<Option<LaidBody>>,
-}
-
-impl Model for Structs {
-    ghost use Rattle.std.specs.Prelude.{List, Option};
-    ghost use Rattle.std.specs.Coded.{codes};
-    ghost use Rattle.pa_ctype.specs.declared.ctype.Held.{Held};
-    ghost use Rattle.pa_ctype.specs.contracts.ctype.Held as held;
-
-    ghost Value = { List (Option (List Held)) };
-
-    ghost coded = { Prim.hlevel (codes, held.the_row.coded) };
-
-    ghost use Rattle.pa_ctype.specs.Kept as kept;
-
-    ghost view = { λ s. kept.members_of s.bodies };
-
-    ghost invariant = { λ s. kept.IsKept s.bodies };
-}
-
-impl Structs {
-    /// No struct. It takes no memory.
-    pub fn new(alloc: Global) -> Structs
-        ensures { result ≡ [] }
-    {
-        Structs {
-            bodies: Items::new(alloc),
-        }
-    }
-
-    /// How many structs there are: the id that is declared next.
-    pub fn len(&self) -> usize
-        ensures { result ≡ length self.now }
-    {
-        self.bodies.len()
-    }
-
-    pub fn is_empty(&self) -> bool
-        ensures { IsTrue result ↔ (self.now ≡ []) }
-    {
-        self.bodies.is_empty()
-    }
-
-    /// The members of a struct in order. None: it has no body, or there is no struct of this id.
-    pub fn get(&self, id: u32) -> Option<&Members>
-        ensures members { option_copied result ≡ option_and_then (λ body. body) (slice_get self.now id) }
-        ensures sound { spec.IsSound (spec.table_of self.now) }
-    {
-        let body = body_of(self.bodies.as_slice(), id)?;
-        Some(&body.members)
-    }
-
-    /// One more struct, without a body: its id. After want of memory there is none more.
-    pub fn declare(&mut self) -> Result<u32, Memory>
-        requires { length self.old < 2 ^ 32 }
-        ensures declared { OnOk result (self.new ≡ self.old ++ None ∷ []) }
-        ensures id { IfOk result (λ id. id ≡ length self.old) }
-        ensures failed { OnErr result (self.new ≡ self.old) }
-    {
-        let id = self.bodies.len() as u32;
-        self.bodies.push(None)?;
-        Ok(id)
-    }
-
-    /// Gives a struct its body. `layout_of` tells whether a member's type is complete.
-    pub fn define(&mut self, id: u32, members: Members)
-        requires open { slice_get self.old id ≡ Some None }
-        requires sound { spec.IsSoundBody (spec.table_of self.old) (spec.fields_of members) }
-        ensures { self.new ≡ slice_set self.old id (Some members) }
-    {
-        let layout = struct_layout(self.bodies.as_slice(), members.as_slice());
-        self.bodies
-            .set(id as usize, Some(LaidBody { members, layout }));
-    }
-
-    /// These structs and those of another table behind them: each id in a type of that table is raised by the count of
-    /// these (`CType::raised`).
-    pub fn followed_by(self, alloc: Global, other: &Structs) -> Result<Structs, Memory>
-        requires { length self + length other.now < 2 ^ 32 }
-        ensures { IfOk result (λ both. spec.table_of both ≡ spec_raised.followed (spec.table_of self) (spec.table_of other.now)) }
-    {
-        let by = self.len() as u32;
-        let more = raised_bodies(alloc, other.bodies.as_slice(), by)?;
-        let Structs { mut bodies } = self;
-        bodies.append(more)?;
-        Ok(Structs { bodies })
-    }
-}
-
-/// The members with each id in their types raised.
-#[tactic(auto, unfolding(crate::specs::Kept::AreRaisable))]
-fn raised_members(alloc: Global, members: &[Held], by: u32) -> Result<Members, AllocError>
-    requires { kept.AreRaisable by (spec.fields_of members.now) }
-    ensures { IfOk result (λ raised. spec.fields_of raised ≡ spec_raised.raised_body by (spec.fields_of members.now)) }
+/// The body of a struct. None: it has none, or there is no struct of this id.
+pub(crate) fn body_of(bodies: &[Option<LaidBody>], id: u32) -> Option<&LaidBody>
+    ensures { option_copied result ≡ kept.kept_body bodies.now id }
 {
-    let mut raised = Members::new(alloc);
+    bodies.get(id as usize)?.as_ref()
+}
+
+/// The layout that is kept for a struct. None: it has none, or there is no struct of this id.
+fn kept_layout(bodies: &[Option<LaidBody>], id: u32) -> Option<Layout>
+    ensures { result ≡ kept.kept_layout bodies.now id }
+{
+    body_of(bodies, id)?.layout
+}
+
+/// The layout of an object of that extent.
+fn layout_at(bodies: &[Option<LaidBody>], extent: Extent) -> Option<Layout>
+    ensures { result ≡ kept.layout_at (kept.kept_layout bodies.now) extent }
+{
+    match extent {
+        Extent::Nowhere => None,
+        Extent::Fixed { layout } => Some(layout),
+        Extent::Structs { id, count } => times(count, kept_layout(bodies, id)?),
+    }
+}
+
+/// The layout of a type. None: it isn't complete, or too large.
+#[tactic(auto, using(crate::proofs::Extents::extent_layout))]
+pub(crate) fn type_layout(nodes: &Nodes, bodies: &[Option<LaidBody>], number: u32) -> Option<Layout>
+    requires table { IsTable (keys nodes.now) (values nodes.now) }
+    requires known { number < length (keys nodes.now) }
+    requires fine { kept.AreFine (kept.kept_layout bodies.now) }
+    ensures { result ≡ spec.layout_by (kept.kept_layout bodies.now) (at (keys nodes.now) number) }
+{
+    layout_at(bodies, facts_at(nodes, number).extent)
+}
+
+/// These members one behind the other, with padding at the end. None: one has no layout, or they have too many bytes.
+#[tactic(auto, using(crate::proofs::Laying::too_large), unfolding(crate::specs::Layouts::members_from))]
+fn laid_members(nodes: &Nodes, bodies: &[Option<LaidBody>], members: &[Held]) -> Option<Layout>
+    requires table { IsTable (keys nodes.now) (values nodes.now) }
+    requires known { types_bound members.now ≤ length (keys nodes.now) }
+    requires fine { kept.AreFine (kept.kept_layout bodies.now) }
+    ensures { result ≡ option_and_then spec.padded (spec.members_from (spec.layout_by (kept.kept_layout bodies.now)) spec.empty (kept.unnamed (at (keys nodes.now)) members.now)) }
+{
+    let mut so_far = Layout { size: 0, align: 1 };
     let mut rest = members;
     'members: while let [held, tail @ ..] = rest {
-        raised.push(Held {
-            name: Name::from_slice(alloc, held.name.as_slice())?,
-            of: raised_type(alloc, &held.of, by)?,
-        })?;
+        let layout = type_layout(nodes, bodies, held.of)?;
+        so_far = placed(so_far, layout);
+        if so_far.size > MOST_BYTES {
+            return None;
+        }
         rest = tail;
     }
-    Ok(raised)
+    padded(so_far)
 }
 
-/// The body with each id in its types raised, and the same layout.
-fn raised_body(
-    alloc: Global,
-    body: &Option<LaidBody>,
-    by: u32,
-) -> Result<Option<LaidBody>, AllocError>
-    requires { kept.IsRaisable by body.now }
-    ensures { IfOk result (λ raised. kept.plain raised ≡ kept.raised_plain by (kept.plain body.now)) }
-{
-    Ok(match body {
-        Some(body) => Some(LaidBody {
-            members: raised_members(alloc, body.members.as_slice(), by)?,
-            layout: body.layout,
-        }),
-        None => None,
-    })
-}
-
-#[tactic(auto, unfolding(crate::specs::Kept::BodiesAreRaisable))]
-fn raised_bodies(
-    alloc: Global,
+/// The layout of a struct of these members. None: it has no member, a member's type isn't complete, or it has too many bytes.
+pub(crate) fn struct_layout(
+    nodes: &Nodes,
     bodies: &[Option<LaidBody>],
-    by: u32,
-) -> Result<Items<Option<LaidBody>>, AllocError>
-    requires { kept.BodiesAreRaisable by bodies.now }
-    ensures { IfOk result (λ raised. map kept.plain raised ≡ map (kept.raised_plain by) (map kept.plain bodies.now)) }
+    members: &[Held],
+) -> Option<Layout>
+    requires table { IsTable (keys nodes.now) (values nodes.now) }
+    requires known { types_bound members.now ≤ length (keys nodes.now) }
+    requires fine { kept.AreFine (kept.kept_layout bodies.now) }
+    ensures { result ≡ spec.struct_layout (spec.layout_by (kept.kept_layout bodies.now)) (kept.unnamed (at (keys nodes.now)) members.now) }
 {
-    let mut raised = Items::new(alloc);
-    let mut rest = bodies;
-    'bodies: while let [body, tail @ ..] = rest {
-        raised.push(raised_body(alloc, body, by)?)?;
+    match members {
+        [] => None,
+        [_, ..] => laid_members(nodes, bodies, members),
+    }
+}
+
+/// The places of members by their names, the first of each name.
+fn places(
+    alloc: Global,
+    nodes: &Nodes,
+    bodies: &[Option<LaidBody>],
+    members: &[Held],
+) -> Result<Places, Memory>
+    requires table { IsTable (keys nodes.now) (values nodes.now) }
+    requires known { types_bound members.now ≤ length (keys nodes.now) }
+    requires fine { kept.AreFine (kept.kept_layout bodies.now) }
+    requires few { kept.EndsWithin (spec.layout_by (kept.kept_layout bodies.now)) spec.empty (kept.unnamed (at (keys nodes.now)) members.now) }
+    ensures { IfOk result (λ found. (name : ℕ) → get nat_eq found name ≡ kept.place_from (kept.lay (at (keys nodes.now)) bodies.now) name spec.empty 0 members.now) }
+{
+    let mut found = IndexMap::new(alloc);
+    let mut so_far = Layout { size: 0, align: 1 };
+    let mut index = 0;
+    let mut rest = members;
+    'members: while let [held, tail @ ..] = rest {
+        let Some(layout) = type_layout(nodes, bodies, held.of) else {
+            return Ok(found);
+        };
+        let place = Member {
+            offset: so_far.size.next_multiple_of(layout.align),
+            index,
+        };
+        note(&mut found, held.name, place)?;
+        so_far = placed(so_far, layout);
+        index += 1;
         rest = tail;
     }
-    Ok(raised)
+    Ok(found)
+}
+
+/// Notes the place of a member, where no earlier one has its name.
+fn note(found: &mut Places, name: u32, place: Member) -> Result<(), Memory>
+    ensures { OnOk result ((other : ℕ) → get nat_eq found.new other ≡ kept.or_else (get nat_eq found.old other) (if name == other then Some place else None)) }
+{
+    if found.get(&name).is_none() {
+        if found.insert(name, place).is_err() {
+            return Err(Memory);
+        }
+    }
+    Ok(())
+}
+
+/// The body of a struct of these members.
+pub(crate) fn laid_body(
+    alloc: Global,
+    nodes: &Nodes,
+    bodies: &[Option<LaidBody>],
+    members: Members,
+) -> Result<LaidBody, Memory>
+    requires table { IsTable (keys nodes.now) (values nodes.now) }
+    requires known { types_bound members ≤ length (keys nodes.now) }
+    requires fine { kept.AreFine (kept.kept_layout bodies.now) }
+    ensures members { IfOk result (λ body. body.members ≡ members) }
+    ensures layout { IfOk result (λ body. body.layout ≡ spec.struct_layout (spec.layout_by (kept.kept_layout bodies.now)) (kept.unnamed (at (keys nodes.now)) members)) }
+    ensures places { IfOk result (λ body. IfSome body.layout (λ l. (name : ℕ) → get nat_eq body.places name ≡ kept.place_from (kept.lay (at (keys nodes.now)) bodies.now) name spec.empty 0 members)) }
+{
+    let layout = struct_layout(nodes, bodies, members.as_slice());
+    let places = match layout {
+        Some(_) => places(alloc, nodes, bodies, members.as_slice())?,
+        None => IndexMap::new(alloc),
+    };
+    Ok(LaidBody {
+        members,
+        layout,
+        places,
+    })
 }

@@ -1,26 +1,9 @@
 -- A text that is written in pieces.
-use Rattle.std.proofs.Common.{◌≡◌, ℕ, suc, ◌+◌, ◌≤◌, List, [], ◌∷◌, ◌++◌, length, take, drop, Option, arith, append_assoc, append-nil, length-append, zero-add, refl, sym, ◌∙◌, ap, ◌<◌, get_or, flat_map}
-use Rattle.std.proofs.lemmas.List.{take-append-le, drop_more}
-use Rattle.pa_io.specs.Outside.{Grew, GrewByPrefix}
-use Rattle.pa_io.proofs.Growth.{Grew-none, Grew-append, Written}
+use Rattle.std.proofs.Common.{◌≡◌, ℕ, ◌+◌, List, [], ◌++◌, length, drop, Option, append_assoc, append-nil, refl, sym, ◌∙◌, ap, ◌<◌, get_or, flat_map}
+use Rattle.std.proofs.lemmas.List.{drop_more}
+use Rattle.pa_io.specs.Outside.{Grew, GrewByProperPrefix}
+use Rattle.pa_io.proofs.Growth.{Grew-none, Grew-append, GrewByProperPrefix-after, GrewByProperPrefix-front, Written}
 use Rattle.pa_engine.specs.Pieces.{Passed}
-
--- what follows a text is no part of a prefix that was written of it
-pub GrewByPrefix-append : (a b : Option (List ℕ)) (xs ys : List ℕ) → GrewByPrefix a b xs → GrewByPrefix a b (xs ++ ys)
-GrewByPrefix-append a b xs ys p =
-    let within : p.0 ≤ length xs = p.1 in
-    (p.0, rw length-append (omega arith), rw take-append-le p.2)
-
-take_behind : (xs ys : List ℕ) (n : ℕ) → take (length xs + n) (xs ++ ys) ≡ xs ++ take n ys
-take_behind [] ys n = rw zero-add refl
-take_behind (x ∷ xs) ys n =
-    let e : length (x ∷ xs) + n ≡ suc (length xs + n) = omega arith in
-    ap (λ k. take k ((x ∷ xs) ++ ys)) e ∙ ap (λ r. x ∷ r) (take_behind xs ys n)
-
--- a text, and then a prefix of another one
-pub Grew-GrewByPrefix : (a b c : Option (List ℕ)) (xs ys : List ℕ) → Grew a b xs → GrewByPrefix b c ys → GrewByPrefix a c (xs ++ ys)
-Grew-GrewByPrefix a b c xs ys g p =
-    (length xs + p.0, rw length-append (omega (arith, p.1)), rw take_behind (Grew-append a b c xs (take p.0 ys) g p.2))
 
 -- nothing is written yet
 pub Written-start : (a : Option (List ℕ)) (text : List ℕ) → Written a a text text
@@ -40,9 +23,9 @@ pub Written-all : (a b c : Option (List ℕ)) (text piece : List ℕ) → Writte
 Written-all a b c text piece w g = rw w.parts (Grew-append a b c w.done piece w.grew g)
 
 -- a prefix of the next piece is written
-pub Written-cut : (a b c : Option (List ℕ)) (text piece rest : List ℕ) → Written a b text (piece ++ rest) → GrewByPrefix b c piece → GrewByPrefix a c text
+pub Written-cut : (a b c : Option (List ℕ)) (text piece rest : List ℕ) → Written a b text (piece ++ rest) → GrewByProperPrefix b c piece → GrewByProperPrefix a c text
 Written-cut a b c text piece rest w p =
-    rw w.parts (Grew-GrewByPrefix a b c w.done (piece ++ rest) w.grew (GrewByPrefix-append b c piece rest p))
+    rw w.parts (GrewByProperPrefix-after a b c w.done (piece ++ rest) w.grew (GrewByProperPrefix-front b c piece rest p))
 
 -- ---- how a text comes onto a page
 
@@ -65,11 +48,11 @@ Written-item f items i d a b c text old new within w p =
 
 -- ---- a whole text of two parts
 
-pub cut_in_first : (whole x y : List ℕ) (a b : Option (List ℕ)) → whole ≡ x ++ y → GrewByPrefix a b x → GrewByPrefix a b whole
-cut_in_first whole x y a b e p = rw e (GrewByPrefix-append a b x y p)
+pub cut_in_first : (whole x y : List ℕ) (a b : Option (List ℕ)) → whole ≡ x ++ y → GrewByProperPrefix a b x → GrewByProperPrefix a b whole
+cut_in_first whole x y a b e p = rw e (GrewByProperPrefix-front a b x y p)
 
-pub cut_in_second : (whole x y : List ℕ) (a b c : Option (List ℕ)) → whole ≡ x ++ y → Grew a b x → GrewByPrefix b c y → GrewByPrefix a c whole
-cut_in_second whole x y a b c e g p = rw e (Grew-GrewByPrefix a b c x y g p)
+pub cut_in_second : (whole x y : List ℕ) (a b c : Option (List ℕ)) → whole ≡ x ++ y → Grew a b x → GrewByProperPrefix b c y → GrewByProperPrefix a c whole
+cut_in_second whole x y a b c e g p = rw e (GrewByProperPrefix-after a b c x y g p)
 
 pub both_written : (whole x y : List ℕ) (a b c : Option (List ℕ)) → whole ≡ x ++ y → Grew a b x → Grew b c y → Grew a c whole
 both_written whole x y a b c e g h = rw e (Grew-append a b c x y g h)

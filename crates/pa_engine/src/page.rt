@@ -1,8 +1,9 @@
 ghost use Rattle.std.specs.Prelude.{◌≡◌, ℕ, [], ◌∷◌, ◌++◌, ◌+◌, ◌≤◌, ◌↔◌, length, IsTrue, decimal, OnOk, OnErr};
 ghost use Rattle.std.specs.Fmt.{signed_decimal};
-ghost use Rattle.pa_io.specs.Outside.{Rose, Grew, GrewByPrefix};
+ghost use Rattle.pa_io.specs.Outside.{Rose, Grew, GrewByProperPrefix};
 ghost use Rattle.pa_engine.specs.Report.{address_text};
 
+use arrayvec::ArrayVec;
 use hex::encode_to_slice;
 use itoa::Buffer;
 use pa_io::{Failed, Sink, write_all};
@@ -14,27 +15,24 @@ pub const PAGE: usize = 8192;
 /// Text that is gathered before it is written, so that a line doesn't cost a write.
 #[derive(Drop)]
 pub struct Page {
-    bytes: [u8; PAGE],
-    filled: usize,
+    text: ArrayVec<u8, PAGE>,
 }
 
 impl Model for Page {
-    ghost use Rattle.std.specs.Prelude.{ℕ, List, take, ◌≤◌};
+    ghost use Rattle.std.specs.Prelude.{ℕ, List};
 
     ghost Value = { List ℕ };
 
-    ghost view = { λ p. take p.filled p.bytes };
-
-    ghost invariant = { λ p. p.filled ≤ 8192 };
+    ghost view = { λ p. p.text.items };
 }
 
 impl Page {
+    /// A page without text.
     pub fn new() -> Page
         ensures { result ≡ [] }
     {
         Page {
-            bytes: [0; PAGE],
-            filled: 0,
+            text: ArrayVec::new(),
         }
     }
 
@@ -42,30 +40,30 @@ impl Page {
     pub fn as_slice(&self) -> &[u8]
         ensures { result.now ≡ self.now }
     {
-        &self.bytes[..self.filled]
+        self.text.as_slice()
     }
 
-    /// Whether so many more bytes fit.
+    /// Whether `count` more bytes fit.
     pub fn has_room(&self, count: usize) -> bool
         requires { count ≤ 8192 }
         ensures { IsTrue result ↔ (length self.now + count ≤ 8192) }
     {
-        self.filled <= PAGE - count
+        self.text.len() <= PAGE - count
     }
 
+    /// Removes the text.
     pub fn clear(&mut self)
         ensures { self.new ≡ [] }
     {
-        self.filled = 0;
+        self.text.clear();
     }
 
+    /// Adds this text.
     pub fn push(&mut self, text: &[u8])
         requires { length self.old + length text.now ≤ 8192 }
         ensures { self.new ≡ self.old ++ text.now }
     {
-        let end = self.filled + text.len();
-        self.bytes[self.filled..end].copy_from_slice(text);
-        self.filled = end;
+        let _ = self.text.try_extend_from_slice(text);
     }
 
     /// Adds the decimal digits of a number.
@@ -103,7 +101,7 @@ impl Page {
     pub fn flush<K: Sink>(&mut self, out: &mut K) -> Result<(), Failed>
         ensures all { OnOk result (Grew (K.written out.old) (K.written out.new) self.old) }
         ensures empty { OnOk result (self.new ≡ []) }
-        ensures prefix { OnErr result (GrewByPrefix (K.written out.old) (K.written out.new) self.old) }
+        ensures prefix { OnErr result (GrewByProperPrefix (K.written out.old) (K.written out.new) self.old) }
         ensures fault { OnErr result (Rose (K.faults out.old) (K.faults out.new)) }
         ensures others { OnOk result (K.faults out.new ≡ K.faults out.old) }
     {

@@ -1,5 +1,5 @@
 ghost use Rattle.std.specs.Prelude.{◌≡◌, [], ◌++◌, ◌+◌, ◌≤◌, length, reverse, flat_map, codes, decimal, OnOk, OnErr};
-ghost use Rattle.pa_io.specs.Outside.{Rose, Grew, GrewByPrefix};
+ghost use Rattle.pa_io.specs.Outside.{Rose, Grew, GrewByProperPrefix};
 ghost use Rattle.pa_engine.specs.Pieces.{Passed};
 ghost use Rattle.pa_engine.specs.Report.{count_of, is_sign, is_take, is_land, is_unsigned, output_line, end_line, counts_line, shown_text, report_text};
 
@@ -23,7 +23,7 @@ pub struct Ran {
 /// the log, of which a short report has only those of authentications that nothing had signed. It takes no memory.
 pub fn report<K: Sink>(ran: &Ran, short: bool, out: &mut K) -> Result<(), Failed>
     ensures all { OnOk result (Grew (K.written out.old) (K.written out.new) (report_text ran.now.output ran.now.end ran.now.log.entries short)) }
-    ensures prefix { OnErr result (GrewByPrefix (K.written out.old) (K.written out.new) (report_text ran.now.output ran.now.end ran.now.log.entries short)) }
+    ensures prefix { OnErr result (GrewByProperPrefix (K.written out.old) (K.written out.new) (report_text ran.now.output ran.now.end ran.now.log.entries short)) }
     ensures fault { OnErr result (Rose (K.faults out.old) (K.faults out.new)) }
     ensures others { OnOk result (K.faults out.new ≡ K.faults out.old) }
 {
@@ -123,7 +123,7 @@ fn put_entry<K: Sink>(
     out: &mut K,
 ) -> Result<(), Failed>
     ensures all { OnOk result (Passed (K.written out.old) (K.written out.new) page.old page.new (shown_text short entry.now)) }
-    ensures prefix { OnErr result (GrewByPrefix (K.written out.old) (K.written out.new) page.old) }
+    ensures prefix { OnErr result (GrewByProperPrefix (K.written out.old) (K.written out.new) page.old) }
     ensures fault { OnErr result (Rose (K.faults out.old) (K.faults out.new)) }
     ensures others { OnOk result (K.faults out.new ≡ K.faults out.old) }
 {
@@ -145,7 +145,7 @@ fn write_lines<K: Sink>(
     out: &mut K,
 ) -> Result<(), Failed>
     ensures all { OnOk result (Grew (K.written out.old) (K.written out.new) (page.old ++ flat_map (shown_text short) entries.now)) }
-    ensures prefix { OnErr result (GrewByPrefix (K.written out.old) (K.written out.new) (page.old ++ flat_map (shown_text short) entries.now)) }
+    ensures prefix { OnErr result (GrewByProperPrefix (K.written out.old) (K.written out.new) (page.old ++ flat_map (shown_text short) entries.now)) }
     ensures fault { OnErr result (Rose (K.faults out.old) (K.faults out.new)) }
     ensures others { OnOk result (K.faults out.new ≡ K.faults out.old) }
 {
@@ -164,7 +164,7 @@ pub(crate) fn write_report<K: Sink>(
     out: &mut K,
 ) -> Result<(), Failed>
     ensures all { OnOk result (Grew (K.written out.old) (K.written out.new) (report_text output.now end (reverse entries.now) short)) }
-    ensures prefix { OnErr result (GrewByPrefix (K.written out.old) (K.written out.new) (report_text output.now end (reverse entries.now) short)) }
+    ensures prefix { OnErr result (GrewByProperPrefix (K.written out.old) (K.written out.new) (report_text output.now end (reverse entries.now) short)) }
     ensures fault { OnErr result (Rose (K.faults out.old) (K.faults out.new)) }
     ensures others { OnOk result (K.faults out.new ≡ K.faults out.old) }
 {

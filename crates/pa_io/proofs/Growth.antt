@@ -1,8 +1,8 @@
 -- How what is told of a sink grows over several writes.
-use Rattle.std.proofs.Common.{◌≡◌, ℕ, ◌≤◌, ◌+◌, ◌-◌, List, [], ◌++◌, length, take, drop, Option, Some, None, arith, append_assoc, append-nil, length-append, sym, ◌∙◌, ap}
-use Rattle.std.proofs.Math.Seq.{take-append_seam, take-append-add, take-length}
+use Rattle.std.proofs.Common.{◌≡◌, ℕ, ◌<◌, ◌≤◌, ◌+◌, ◌-◌, List, [], ◌++◌, length, take, drop, Option, Some, None, arith, append_assoc, append-nil, length-append, sym, ◌∙◌, ap}
+use Rattle.std.proofs.Math.Seq.{take-append_seam, take-append-add}
 use Rattle.std.proofs.lemmas.List.{take-append-drop, take-append-le, take_rest}
-use Rattle.pa_io.specs.Outside.{Grew, Stayed, GrewByPrefix}
+use Rattle.pa_io.specs.Outside.{Grew, Stayed, GrewByProperPrefix}
 
 pub Grew-none : (a : Option (List ℕ)) → Grew a a []
 Grew-none None = tt
@@ -44,20 +44,19 @@ Written-more a b c bytes rest n w g =
 pub Written-stayed : (a b c : Option (List ℕ)) (bytes rest : List ℕ) → Written a b bytes rest → Stayed b c → Written a c bytes rest
 Written-stayed a b c bytes rest w s = record { done = w.done; parts = w.parts; grew = Grew-Stayed a b c w.done w.grew s }
 
-pub Written-prefix : (a b : Option (List ℕ)) (bytes rest : List ℕ) → Written a b bytes rest → GrewByPrefix a b bytes
-Written-prefix a b bytes rest w =
+-- some bytes are left
+pub Written-part : (a b : Option (List ℕ)) (bytes rest : List ℕ) → 0 < length rest → Written a b bytes rest → GrewByProperPrefix a b bytes
+Written-part a b bytes rest some w =
     (length w.done, rw (w.parts, length-append) (omega arith), rw (w.parts, take-append_seam) w.grew)
 
--- for a text that is written in several parts: all of one part
-pub GrewByPrefix-all : (a b : Option (List ℕ)) (xs : List ℕ) → Grew a b xs → GrewByPrefix a b xs
-GrewByPrefix-all a b xs g = (length xs, omega arith, rw take-length g)
-
--- part of the first part
-pub GrewByPrefix-front : (a b : Option (List ℕ)) (xs ys : List ℕ) → GrewByPrefix a b xs → GrewByPrefix a b (xs ++ ys)
-GrewByPrefix-front a b xs ys p =
-    let within : p.0 ≤ length xs = p.1 in (p.0, rw length-append (omega arith), rw take-append-le p.2)
+-- for a text that is written in several parts: part of the first part
+pub GrewByProperPrefix-front : (a b : Option (List ℕ)) (xs ys : List ℕ) → GrewByProperPrefix a b xs → GrewByProperPrefix a b (xs ++ ys)
+GrewByProperPrefix-front a b xs ys p =
+    let part : p.0 < length xs = p.1 in
+    let within : p.0 ≤ length xs = omega arith in
+    (p.0, rw length-append (omega arith), rw take-append-le p.2)
 
 -- a part, and then part of the next one
-pub GrewByPrefix-after : (a b c : Option (List ℕ)) (xs ys : List ℕ) → Grew a b xs → GrewByPrefix b c ys → GrewByPrefix a c (xs ++ ys)
-GrewByPrefix-after a b c xs ys g p =
+pub GrewByProperPrefix-after : (a b c : Option (List ℕ)) (xs ys : List ℕ) → Grew a b xs → GrewByProperPrefix b c ys → GrewByProperPrefix a c (xs ++ ys)
+GrewByProperPrefix-after a b c xs ys g p =
     (length xs + p.0, rw length-append (omega (arith, p.1)), rw take-append-add (Grew-append a b c xs (take p.0 ys) g p.2))

@@ -1,9 +1,10 @@
-ghost use Rattle.std.specs.Prelude.{◌≡◌, ◌<◌, ◌≤◌, ◌^◌, length, take, drop, IfOk, IfSome, vec_len};
+ghost use Rattle.std.specs.Prelude.{◌≡◌, ◌<◌, ◌≤◌, ◌^◌, [], length, take, drop, IfOk, IfSome, vec_len};
 ghost use Rattle.std.specs.Io.KnownBytes.{Consumes, IsAtEnd};
-ghost use Rattle.pa_io.specs.Outside.{OnLong};
+ghost use Rattle.pa_io.specs.Calls.{next_count};
+ghost use Rattle.pa_io.specs.Outside.{given_count, OnLong, Grew};
 
-use crate::outside::{Failed, Shelf, ShelfFault, Sink, Source};
-use pa_num::Name;
+use crate::outside::{Failed, Given, Shelf, ShelfFault, Sink, Source};
+use pa_num::{Bytes, Name};
 use std::alloc::Global;
 use std::fs;
 use std::io::{Read, Stdin, Stdout, Write};
@@ -19,20 +20,24 @@ pub struct DiskShelf {
     pub faults: u64,
     /// The name of the last call that answered `Failed`.
     pub failed: Option<Name>,
+    /// The file that it gave last.
+    pub given: Option<Given>,
     ghost counted: { faults < 2 ^ 64 },
 }
 
 impl DiskShelf {
     ghost use Rattle.std.specs.Prelude.{None};
 
-    /// The disk, without a fault so far.
+    /// The disk, without a fault and a file given so far.
     pub fn new(rt: HostRuntime) -> DiskShelf
-        ensures { (result.faults ≡ 0) × (result.failed ≡ None) }
+        ensures faults { (result.faults ≡ 0) × (result.failed ≡ None) }
+        ensures given { result.given ≡ None }
     {
         DiskShelf {
             rt,
             faults: 0,
             failed: None,
+            given: None,
         }
     }
 }
@@ -46,20 +51,42 @@ impl Shelf for DiskShelf {
 
     ghost told = { λ _ _. Untold };
 
+    ghost given = { λ s. s.given };
+
     fn read(&mut self, alloc: Global, name: &str, limit: u64) -> Result<Vec<u8>, ShelfFault> {
         let asked = Name::from_slice(alloc, name.as_bytes())?;
         let answer = match fs::open(&self.rt, name) {
             Ok(mut file) => read_to_end(alloc, &mut file, limit),
             Err(_) => Err(ShelfFault::Failed),
         };
-        if matches!(answer, Err(ShelfFault::Failed)) {
-            self.faults = self.faults.saturating_add(1);
-            self.failed = Some(asked);
+        match answer {
+            Ok(bytes) => {
+                let copy = Bytes::from_slice(alloc, &bytes)?;
+                self.given = Some(next_given(&self.given, asked, copy));
+                Ok(bytes)
+            }
+            Err(ShelfFault::Failed) => {
+                self.faults = self.faults.saturating_add(1);
+                self.failed = Some(asked);
+                Err(ShelfFault::Failed)
+            }
+            Err(fault) => Err(fault),
         }
-        answer
     }
 
     ghost bounded = { λ s. s.counted };
+}
+
+/// This file, given after the last one.
+fn next_given(last: &Option<Given>, name: Name, bytes: Bytes) -> Given
+    ensures { result ≡ record { count = next_count (given_count last.now); name = name; bytes = bytes } }
+{
+    let before = match last {
+        Some(given) => given.count,
+        None => 0,
+    };
+    let count = before.saturating_add(1);
+    Given { count, name, bytes }
 }
 
 /// All the bytes up to the end, where they are at most `limit`. Each turn but the last takes a byte at least, so there are
@@ -99,22 +126,39 @@ fn read_piece<R: Read>(input: &mut R, buffer: &mut [u8]) -> Result<usize, Failed
     Ok(count)
 }
 
-/// Standard input. Nothing is told of its bytes.
+/// Adds the piece to what is kept, or keeps nothing from then on where there is no memory for it.
+fn keep(kept: &mut Option<Bytes>, piece: &[u8])
+    ensures { Grew kept.old kept.new piece.now }
+{
+    if let Some(mut bytes) = kept.take() {
+        if bytes.extend_from_slice(piece).is_ok() {
+            *kept = Some(bytes);
+        }
+    }
+}
+
+/// Standard input. Nothing is told of its bytes; what it gave is kept, until there is no memory for it.
 #[derive(Debug, Drop)]
 pub struct StdinSource {
     input: Stdin,
+    /// All the bytes that it gave, or none once there was no memory to keep them.
+    pub given: Option<Bytes>,
     /// The faults so far.
     pub faults: u64,
     ghost counted: { faults < 2 ^ 64 },
 }
 
 impl StdinSource {
-    /// Standard input, without a fault so far.
+    ghost use Rattle.std.specs.Prelude.{Some};
+
+    /// Standard input, without a fault and a byte given so far.
     pub fn new(rt: HostRuntime) -> StdinSource
-        ensures { result.faults ≡ 0 }
+        ensures faults { result.faults ≡ 0 }
+        ensures given { result.given ≡ Some [] }
     {
         StdinSource {
             input: rt.stdin(),
+            given: Some(Bytes::new(rt.alloc())),
             faults: 0,
         }
     }
@@ -127,12 +171,19 @@ impl Source for StdinSource {
 
     ghost left = { λ _. None };
 
+    ghost given = { λ s. s.given };
+
     fn read(&mut self, buffer: &mut [u8]) -> Result<usize, Failed> {
-        let answer = read_piece(&mut self.input, buffer);
-        if answer.is_err() {
-            self.faults = self.faults.saturating_add(1);
+        match read_piece(&mut self.input, buffer) {
+            Ok(count) => {
+                keep(&mut self.given, &buffer[..count]);
+                Ok(count)
+            }
+            Err(fault) => {
+                self.faults = self.faults.saturating_add(1);
+                Err(fault)
+            }
         }
-        answer
     }
 
     ghost bounded = { λ s. s.counted };

@@ -33,6 +33,8 @@ impl Shelf for SureShelf {
 
     ghost told = { λ s. tells_all s.files };
 
+    ghost given = { λ _. None };
+
     #[tactic(auto, unfolding(crate::specs::Files::tells_all))]
     fn read(&mut self, alloc: Global, name: &str, limit: u64) -> Result<Vec<u8>, ShelfFault> {
         let file = find_file(self.files.as_slice(), name.as_bytes());
@@ -60,11 +62,13 @@ impl SureSource {
 
 impl Source for SureSource {
     ghost use Rattle.std.proofs.Common.{lit<};
-    ghost use Rattle.std.specs.Prelude.{Some};
+    ghost use Rattle.std.specs.Prelude.{Some, None};
 
     ghost faults = { λ _. 0 };
 
     ghost left = { λ s. Some s.left };
+
+    ghost given = { λ _. None };
 
     fn read(&mut self, buffer: &mut [u8]) -> Result<usize, Failed>
         ensures count { result ≡ Ok (min (length self.old.left) (length buffer.old)) }

@@ -135,15 +135,22 @@ fn the_disk_gives_a_file(rt: HostRuntime) -> Result<(), Fail> {
     assert_eq!(rt; shelf.faults, 2);
     let failed = shelf.failed.ok_or("a name")?;
     assert_eq!(rt; failed.as_slice(), b"/".as_slice());
+    let given = shelf.given.ok_or("a file")?;
+    assert_eq!(rt; given.count, 1);
+    assert_eq!(rt; given.name.as_slice(), b"one.txt".as_slice());
+    assert_eq!(rt; given.bytes.as_slice(), b"one".as_slice());
     Ok(())
 }
 
 // A test's standard input is empty.
 #[test]
-fn standard_input_ends(rt: HostRuntime) {
+fn standard_input_ends(rt: HostRuntime) -> Result<(), Fail> {
     let mut source = StdinSource::new(rt);
     assert_eq!(rt; source.read(&mut [0; 4]), Ok(0));
     assert_eq!(rt; source.faults, 0);
+    let given = source.given.ok_or("bytes")?;
+    assert!(rt; given.is_empty());
+    Ok(())
 }
 
 #[test]

@@ -7,13 +7,12 @@ use Rattle.std.proofs.lemmas.Slice.Eq.{bytes_eq-Decides}
 use Rattle.std.proofs.lemmas.Bool.Decides.{nat_tests}
 use Rattle.pa_lex.specs.declared.token.Keyword.{Keyword}
 use Rattle.pa_lex.specs.declared.token.Keyword.TheVariants as k
-use Rattle.pa_lex.specs.declared.token.Kind.{Kind}
 use Rattle.pa_lex.specs.declared.token.Kind.TheVariants as kind
 use Rattle.pa_lex.specs.declared.form.Base.{Base}
 use Rattle.pa_lex.specs.declared.form.Quote.TheVariants.{Single}
 use Rattle.pa_lex.specs.Texts.{Text, keyword_text, keywords_at}
 use Rattle.pa_lex.specs.Literals.{radix, is_decimal, is_u, is_l}
-use Rattle.pa_lex.specs.Forms.{Number, Quoted, NoKeyword, Means, IsInteger}
+use Rattle.pa_lex.specs.Forms.{Number, Quoted, Meaning, Other, NoKeyword, Means, IsInteger}
 use Rattle.pa_lex.specs.Reading.{keyword_of, within_u64, IsCharacterOf}
 
 pub keyword_is : (keyword : Keyword) → keyword_of (keyword_text keyword) ≡ Some keyword
@@ -91,10 +90,10 @@ pub number_means : (base : Base) (digits suffix : Text) (value : ℕ) (decimal u
 number_means base digits suffix value decimal unsigned long e d u l =
     let w = within_some (digits_value (radix base) digits) value e in record { value_is = w.0; small = w.1; decimal_is = d; unsigned_is = u; long_is = l }
 
-pub number_none : (base : Base) (digits suffix : Text) (kind : Kind) → within_u64 (digits_value (radix base) digits) ≡ None → Means (Number base digits suffix) kind → ⊥
-number_none base digits suffix (kind.Integer value decimal unsigned long) e m = let s = m.small in let v = m.value_is in within_none (digits_value (radix base) digits) e (omega arith)
+pub number_none : (base : Base) (digits suffix : Text) (meaning : Meaning) → within_u64 (digits_value (radix base) digits) ≡ None → Means (Number base digits suffix) meaning → ⊥
+number_none base digits suffix (Other (kind.Integer value decimal unsigned long)) e m = let s = m.small in let v = m.value_is in within_none (digits_value (radix base) digits) e (omega arith)
 number_none base digits suffix _ e m = elim m [ ]
 
-pub character_none : (body : Text) (kind : Kind) → IsCharacterOf body None → Means (Quoted Single body) kind → ⊥
-character_none body (kind.Character value) none (byte, stands, v) = none byte stands
+pub character_none : (body : Text) (meaning : Meaning) → IsCharacterOf body None → Means (Quoted Single body) meaning → ⊥
+character_none body (Other (kind.Character value)) none (byte, stands, v) = none byte stands
 character_none body _ none m = elim m [ ]

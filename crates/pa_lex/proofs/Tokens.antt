@@ -6,14 +6,13 @@ use Rattle.std.specs.Int.{cast_signed, w8}
 use Rattle.pa_lex.specs.declared.byte.Class.TheVariants.{Other}
 use Rattle.pa_lex.specs.declared.form.Quote.{Quote}
 use Rattle.pa_lex.specs.declared.form.Quote.TheVariants.{Single, Double}
-use Rattle.pa_lex.specs.declared.token.Kind.{Kind}
 use Rattle.pa_lex.specs.declared.token.Kind.TheVariants as k
 use Rattle.pa_lex.specs.declared.token.Keyword.{Keyword}
-use Rattle.pa_lex.specs.declared.token.Token.{Token}
 use Rattle.pa_lex.specs.Texts.{Text, punct_text, keyword_text}
 use Rattle.pa_lex.specs.Bytes.{is_white, begins}
-use Rattle.pa_lex.specs.Forms.{Form, Word, Number, Quoted, Mark, Line, form_text, quote_byte, Fits, Means}
-use Rattle.pa_lex.specs.Lexes.{Separator, White, BlockComment, LineComment, IsSeparatorAt, Cursor, opens_comment, IsFormAt, IsLongest, IsTokenAt}
+use Rattle.pa_lex.specs.Forms as forms
+use Rattle.pa_lex.specs.Forms.{Form, Word, Number, Quoted, Mark, Line, form_text, quote_byte, Fits, Meaning, Means}
+use Rattle.pa_lex.specs.Lexes.{Separator, White, BlockComment, LineComment, IsSeparatorAt, Cursor, opens_comment, IsFormAt, IsLongest, Spelled, IsTokenAt}
 use Rattle.pa_lex.specs.Reading.{class_of, separator_at, keyword_of}
 use Rattle.pa_lex.proofs.Runs.{heads, tails, differ, same_front}
 use Rattle.pa_lex.proofs.Entries.{begins_joined}
@@ -79,49 +78,49 @@ keyword_one a b e = let h : Some a ≡ Some b = sym (keyword_is a) ∙ ap keywor
 integer_one : (value other : ℕ) (d u l e v m : Bool) → value ≡ other → d ≡ e → u ≡ v → l ≡ m → k.Integer value d u l ≡ k.Integer other e v m
 integer_one value other d u l e v m p q r s = ap (λ x. k.Integer x d u l) p ∙ ap (λ x. k.Integer other x u l) q ∙ ap (λ x. k.Integer other e x l) r ∙ ap (λ x. k.Integer other e v x) s
 
--- a form means one kind at most
-pub means_one : (form : Form) (a b : Kind) → Means form a → Means form b → a ≡ b
-means_one (Word w) (k.Keyword a) (k.Keyword b) h i = ap k.Keyword (keyword_one a b (sym h ∙ i))
-means_one (Word w) (k.Keyword a) (k.Name n) h i = absurd (i.1 a h)
-means_one (Word w) (k.Name n) (k.Keyword b) h i = absurd (h.1 b i)
-means_one (Word w) (k.Name n) (k.Name m) h i = ap k.Name (sym h.0 ∙ i.0)
-means_one (Word w) (k.Keyword a) b h i = elim i [ ]
-means_one (Word w) (k.Name n) b h i = elim i [ ]
+-- a form means one thing at most
+pub means_one : (form : Form) (a b : Meaning) → Means form a → Means form b → a ≡ b
+means_one (Word w) (forms.Other (k.Keyword a)) (forms.Other (k.Keyword b)) h i = ap (λ x. forms.Other (k.Keyword x)) (keyword_one a b (sym h ∙ i))
+means_one (Word w) (forms.Other (k.Keyword a)) (forms.Name n) h i = absurd (i.1 a h)
+means_one (Word w) (forms.Name n) (forms.Other (k.Keyword b)) h i = absurd (h.1 b i)
+means_one (Word w) (forms.Name n) (forms.Name m) h i = ap forms.Name (sym h.0 ∙ i.0)
+means_one (Word w) (forms.Other (k.Keyword a)) b h i = elim i [ ]
+means_one (Word w) (forms.Name n) b h i = elim i [ ]
 means_one (Word w) a b h i = elim h [ ]
-means_one (Number base ds s) (k.Integer v d u l) (k.Integer w e x m) h i =
-    integer_one v w d u l e x m (h.value_is ∙ sym i.value_is) (h.decimal_is ∙ sym i.decimal_is) (h.unsigned_is ∙ sym i.unsigned_is) (h.long_is ∙ sym i.long_is)
-means_one (Number base ds s) (k.Integer v d u l) b h i = elim i [ ]
+means_one (Number base ds s) (forms.Other (k.Integer v d u l)) (forms.Other (k.Integer w e x m)) h i =
+    ap forms.Other (integer_one v w d u l e x m (h.value_is ∙ sym i.value_is) (h.decimal_is ∙ sym i.decimal_is) (h.unsigned_is ∙ sym i.unsigned_is) (h.long_is ∙ sym i.long_is))
+means_one (Number base ds s) (forms.Other (k.Integer v d u l)) b h i = elim i [ ]
 means_one (Number base ds s) a b h i = elim h [ ]
-means_one (Quoted Single body) (k.Character v) (k.Character w) (a, r, p) (b, s, q) =
-    let same : a ≡ b = heads (stands_one (a ∷ []) (b ∷ []) body r s) in ap k.Character (p ∙ ap (cast_signed w8) same ∙ sym q)
-means_one (Quoted Single body) (k.Character v) b h i = elim i [ ]
+means_one (Quoted Single body) (forms.Other (k.Character v)) (forms.Other (k.Character w)) (a, r, p) (b, s, q) =
+    let same : a ≡ b = heads (stands_one (a ∷ []) (b ∷ []) body r s) in ap (λ x. forms.Other (k.Character x)) (p ∙ ap (cast_signed w8) same ∙ sym q)
+means_one (Quoted Single body) (forms.Other (k.Character v)) b h i = elim i [ ]
 means_one (Quoted Single body) a b h i = elim h [ ]
-means_one (Quoted Double body) (k.Text v) (k.Text w) h i = ap k.Text (stands_one v w body h i)
-means_one (Quoted Double body) (k.Text v) b h i = elim i [ ]
+means_one (Quoted Double body) (forms.Other (k.Text v)) (forms.Other (k.Text w)) h i = ap (λ x. forms.Other (k.Text x)) (stands_one v w body h i)
+means_one (Quoted Double body) (forms.Other (k.Text v)) b h i = elim i [ ]
 means_one (Quoted Double body) a b h i = elim h [ ]
-means_one (Mark p) (k.Punct v) (k.Punct w) h i = ap k.Punct (sym h ∙ i)
-means_one (Mark p) (k.Punct v) b h i = elim i [ ]
+means_one (Mark p) (forms.Other (k.Punct v)) (forms.Other (k.Punct w)) h i = ap (λ x. forms.Other (k.Punct x)) (sym h ∙ i)
+means_one (Mark p) (forms.Other (k.Punct v)) b h i = elim i [ ]
 means_one (Mark p) a b h i = elim h [ ]
-means_one (Line p) (k.Include v) (k.Include w) h i = ap k.Include (sym h ∙ i)
-means_one (Line p) (k.Include v) b h i = elim i [ ]
+means_one (Line p) (forms.Other (k.Include v)) (forms.Other (k.Include w)) h i = ap (λ x. forms.Other (k.Include x)) (sym h ∙ i)
+means_one (Line p) (forms.Other (k.Include v)) b h i = elim i [ ]
 means_one (Line p) a b h i = elim h [ ]
 
-token_by : (a b : Token) → a.kind ≡ b.kind → a.from ≡ b.from → a.to ≡ b.to → a ≡ b
+token_by : (a b : Spelled) → a.meaning ≡ b.meaning → a.from ≡ b.from → a.to ≡ b.to → a ≡ b
 token_by a b p q r =
-    ap (λ x. record { kind = x; from = a.from; to = a.to }) p ∙ ap (λ x. record { kind = b.kind; from = x; to = a.to }) q ∙ ap (λ x. record { kind = b.kind; from = b.from; to = x }) r
+    ap (λ x. record { meaning = x; from = a.from; to = a.to }) p ∙ ap (λ x. record { meaning = b.meaning; from = x; to = a.to }) q ∙ ap (λ x. record { meaning = b.meaning; from = b.from; to = x }) r
 
-pub record IsSameToken (a b : Token) (f g : Form) (rest r : Text) : Type 0 where
+pub record IsSameToken (a b : Spelled) (f g : Form) (rest r : Text) : Type 0 where
   pub tokens : a ≡ b
   pub forms : f ≡ g
   pub rests : rest ≡ r
 
 -- one token at most is at a place
-pub token_one : (a b : Token) (f g : Form) (cursor : Cursor) (rest r : Text) → IsTokenAt a f cursor rest → IsTokenAt b g cursor r → IsSameToken a b f g rest r
+pub token_one : (a b : Spelled) (f g : Form) (cursor : Cursor) (rest r : Text) → IsTokenAt a f cursor rest → IsTokenAt b g cursor r → IsSameToken a b f g rest r
 token_one a b f g cursor rest r h i =
     let s = longest_one f g cursor rest r h.here h.longest i.here i.longest in
-    let m : Means f b.kind = subst (λ x. Means x b.kind) (sym s.0) i.means in
+    let m : Means f b.meaning = subst (λ x. Means x b.meaning) (sym s.0) i.means in
     record {
-      tokens = token_by a b (means_one f a.kind b.kind h.means m) (h.from_is ∙ sym i.from_is) (h.to_is ∙ ap (λ x. cursor.at + length (form_text x)) s.0 ∙ sym i.to_is);
+      tokens = token_by a b (means_one f a.meaning b.meaning h.means m) (h.from_is ∙ sym i.from_is) (h.to_is ∙ ap (λ x. cursor.at + length (form_text x)) s.0 ∙ sym i.to_is);
       forms = s.0;
       rests = s.1;
     }

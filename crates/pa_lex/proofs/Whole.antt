@@ -5,15 +5,13 @@ use Rattle.std.specs.Str.Parse.{digits_value}
 use Rattle.std.specs.List.{list_any}
 use Rattle.std.specs.Int.{cast_signed, w8}
 use Rattle.pa_lex.specs.declared.form.Quote.TheVariants.{Single, Double}
-use Rattle.pa_lex.specs.declared.token.Kind.{Kind}
 use Rattle.pa_lex.specs.declared.token.Kind.TheVariants as k
 use Rattle.pa_lex.specs.declared.token.Keyword.{Keyword}
-use Rattle.pa_lex.specs.declared.token.Token.{Token}
 use Rattle.pa_lex.specs.declared.token.LexRule.{LexRule}
 use Rattle.pa_lex.specs.Texts.{Text, keyword_text}
 use Rattle.pa_lex.specs.Literals.{StandsFor, radix, is_decimal, is_u, is_l}
-use Rattle.pa_lex.specs.Forms.{Form, Word, Number, Quoted, Mark, Line, form_text, Means, rule_of}
-use Rattle.pa_lex.specs.Lexes.{Separator, separator_text, Cursor, start, moved, Gap, opens_comment, IsFormAt, IsLongest, IsTokenAt, NothingAt, rule_at, Breaks, Outcome, Whole, Broken, Stops, Reads, Lexes, IsRefused, IsSettled}
+use Rattle.pa_lex.specs.Forms.{Form, Word, Number, Quoted, Mark, Line, form_text, Meaning, Name, Other, Means, rule_of}
+use Rattle.pa_lex.specs.Lexes.{Separator, separator_text, Cursor, start, moved, Gap, opens_comment, IsFormAt, IsLongest, Spelled, IsTokenAt, NothingAt, rule_at, Breaks, Outcome, Whole, Broken, Stops, Reads, Lexes, IsRefused, IsSettled}
 use Rattle.pa_lex.specs.Reading.{separator_at, keyword_of, form_at, form_here}
 use Rattle.pa_lex.proofs.Separators.{IsReadSeparator, separator_sound, none_separator, separator_none, separator_long}
 use Rattle.pa_lex.proofs.Gaps.{gap_one}
@@ -24,56 +22,56 @@ use Rattle.pa_lex.proofs.Tokens.{token_one, longest_one, form_stops, form_of, fo
 
 -- what a form means, or that it means nothing
 abbrev IsDecided : Form → Type 0
-IsDecided form = ((kind : Kind) × Means form kind) ⊎ ((kind : Kind) → Means form kind → ⊥)
+IsDecided form = ((meaning : Meaning) × Means form meaning) ⊎ ((meaning : Meaning) → Means form meaning → ⊥)
 
 name_by : (text : Text) → ((keyword : Keyword) → text ≢ keyword_text keyword) → (length text ≤ 255) ⊎ (255 < length text) → IsDecided (Word text)
-name_by text none (inl h) = inl (k.Name text, (refl, none, h))
+name_by text none (inl h) = inl (Name text, (refl, none, h))
 name_by text none (inr h) = inr means_none
   where
-    means_none : (kind : Kind) → Means (Word text) kind → ⊥
-    means_none (k.Keyword keyword) m = none keyword m
-    means_none (k.Name name) m = let l = m.2 in absurd (omega arith)
+    means_none : (meaning : Meaning) → Means (Word text) meaning → ⊥
+    means_none (Other (k.Keyword keyword)) m = none keyword m
+    means_none (Name name) m = let l = m.2 in absurd (omega arith)
     means_none _ m = elim m [ ]
 
 word_by : (text : Text) (o : Option Keyword) → keyword_of text ≡ o → IsDecided (Word text)
-word_by text (Some keyword) e = inl (k.Keyword keyword, keyword_found text keyword e)
+word_by text (Some keyword) e = inl (Other (k.Keyword keyword), keyword_found text keyword e)
 word_by text None e = name_by text (keyword_none text e) (elim (cases_lt 255 (length text)) [ inl lt ↦ inr lt | inr le ↦ inl le ])
 
 abbrev IsStood : Text → Type 0
 IsStood body = ((bytes : List ℕ) × StandsFor body bytes) ⊎ ((bytes : List ℕ) → StandsFor body bytes → ⊥)
 
-no_character : (body : Text) → ((byte : ℕ) → StandsFor body (byte ∷ []) → ⊥) → (kind : Kind) → Means (Quoted Single body) kind → ⊥
-no_character body none (k.Character value) (byte, stands, v) = none byte stands
+no_character : (body : Text) → ((byte : ℕ) → StandsFor body (byte ∷ []) → ⊥) → (meaning : Meaning) → Means (Quoted Single body) meaning → ⊥
+no_character body none (Other (k.Character value)) (byte, stands, v) = none byte stands
 no_character body none _ m = elim m [ ]
 
 single_by : (body : Text) → IsStood body → IsDecided (Quoted Single body)
 single_by body (inl ([], s)) = inr (no_character body (λ byte r. let e = stands_one [] (byte ∷ []) body s r in cc))
-single_by body (inl (byte ∷ [], s)) = inl (k.Character (cast_signed w8 byte), (byte, s, refl))
+single_by body (inl (byte ∷ [], s)) = inl (Other (k.Character (cast_signed w8 byte)), (byte, s, refl))
 single_by body (inl (b ∷ (c ∷ bytes), s)) = inr (no_character body (λ byte r. let e = stands_one (b ∷ (c ∷ bytes)) (byte ∷ []) body s r in cc))
 single_by body (inr none) = inr (no_character body (λ byte. none (byte ∷ [])))
 
 double_by : (body : Text) → IsStood body → IsDecided (Quoted Double body)
-double_by body (inl (bytes, s)) = inl (k.Text bytes, s)
+double_by body (inl (bytes, s)) = inl (Other (k.Text bytes), s)
 double_by body (inr none) = inr means_none
   where
-    means_none : (kind : Kind) → Means (Quoted Double body) kind → ⊥
-    means_none (k.Text bytes) m = none bytes m
+    means_none : (meaning : Meaning) → Means (Quoted Double body) meaning → ⊥
+    means_none (Other (k.Text bytes)) m = none bytes m
     means_none _ m = elim m [ ]
 
 decided : (form : Form) → IsDecided form
 decided (Word text) = word_by text (keyword_of text) refl
 decided (Number base digits suffix) = elim (cases_lt (digits_value (radix base) digits) (2 ^ 64)) [
-  | inl lt ↦ inl (k.Integer (digits_value (radix base) digits) (is_decimal base) (list_any is_u suffix) (list_any is_l suffix), record { value_is = refl; small = lt; decimal_is = refl; unsigned_is = refl; long_is = refl })
+  | inl lt ↦ inl (Other (k.Integer (digits_value (radix base) digits) (is_decimal base) (list_any is_u suffix) (list_any is_l suffix)), record { value_is = refl; small = lt; decimal_is = refl; unsigned_is = refl; long_is = refl })
   | inr le ↦ inr (too_large le)
 ]
   where
-    too_large : 2 ^ 64 ≤ digits_value (radix base) digits → (kind : Kind) → Means (Number base digits suffix) kind → ⊥
-    too_large le (k.Integer value d u l) m = let s = m.small in let v = m.value_is in omega arith
+    too_large : 2 ^ 64 ≤ digits_value (radix base) digits → (meaning : Meaning) → Means (Number base digits suffix) meaning → ⊥
+    too_large le (Other (k.Integer value d u l)) m = let s = m.small in let v = m.value_is in omega arith
     too_large le _ m = elim m [ ]
 decided (Quoted Single body) = single_by body (stands_decided (length body) body (omega arith))
 decided (Quoted Double body) = double_by body (stands_decided (length body) body (omega arith))
-decided (Mark punct) = inl (k.Punct punct, refl)
-decided (Line include) = inl (k.Include include, refl)
+decided (Mark punct) = inl (Other (k.Punct punct), refl)
+decided (Line include) = inl (Other (k.Include include), refl)
 
 -- a comment that opens keeps a form from beginning
 nothing_opened : (cursor : Cursor) → cursor.ahead ≢ [] → separator_at cursor.ahead ≡ None → opens_comment cursor.ahead ≡ true → NothingAt cursor
@@ -141,19 +139,19 @@ stops_one (Broken rule place) Whole cursor (h, p) i = absurd (breaks_more rule c
 stops_one (Broken rule place) (Broken other at) cursor (h, p) (i, q) = ap (λ x. Broken x place) (rule_one rule other cursor h i) ∙ ap (Broken other) (p ∙ sym q)
 
 -- reading doesn't stop at a token
-stop_token : (outcome : Outcome) (token : Token) (form : Form) (cursor : Cursor) (rest : Text) → Stops outcome cursor → IsTokenAt token form cursor rest → ⊥
+stop_token : (outcome : Outcome) (token : Spelled) (form : Form) (cursor : Cursor) (rest : Text) → Stops outcome cursor → IsTokenAt token form cursor rest → ⊥
 stop_token Whole token form cursor rest h t = form_nonempty form cursor rest t.here h
 stop_token (Broken rule place) token form cursor rest (inl (nothing, e), p) t = nothing.no_form form rest t.here
 stop_token (Broken rule place) token form cursor rest (inr (g, r, empty, e), p) t =
     let s = longest_one g form cursor r rest empty.here empty.longest t.here t.longest in
-    empty.means_none token.kind (subst (λ x. Means x token.kind) (sym s.0) t.means)
+    empty.means_none token.meaning (subst (λ x. Means x token.meaning) (sym s.0) t.means)
 
-pub record IsSameReading (tokens others : List Token) (a b : Outcome) : Type 0 where
+pub record IsSameReading (tokens others : List Spelled) (a b : Outcome) : Type 0 where
   pub lists : tokens ≡ others
   pub outcomes : a ≡ b
 
 -- from one place reading goes one way
-reads_one : (tokens others : List Token) (a b : Outcome) (cursor : Cursor) → Reads tokens a cursor → Reads others b cursor → IsSameReading tokens others a b
+reads_one : (tokens others : List Spelled) (a b : Outcome) (cursor : Cursor) → Reads tokens a cursor → Reads others b cursor → IsSameReading tokens others a b
 reads_one [] [] a b cursor (g, d, gap, s) (h, e, hap, t) =
     let same = gap_one g h cursor d e gap (stop_none a d s) hap (stop_none b e t) in
     record { lists = refl; outcomes = stops_one a b d s (subst (Stops b) (sym same) t) }
@@ -198,7 +196,7 @@ past_gap zero cursor h = past_by cursor (separator_at cursor.ahead) refl (λ nex
 past_gap (suc fuel) cursor h = past_by cursor (separator_at cursor.ahead) refl (λ next l. past_gap fuel next (omega arith))
 
 record IsReading (cursor : Cursor) : Type 0 where
-  tokens : List Token
+  tokens : List Spelled
   outcome : Outcome
   reads : Reads tokens outcome cursor
 
@@ -208,9 +206,9 @@ stopped cursor p outcome s = record { tokens = []; outcome = outcome; reads = (p
 token_by : (cursor : Cursor) (p : IsPastGap cursor) (form : Form) → IsFormHere form p.last → IsDecided form → ((next : Cursor) → length next.ahead < length p.last.ahead → IsReading next) → IsReading cursor
 token_by cursor p form h (inr none) more =
     stopped cursor p (Broken (rule_of form) p.last.at) (inr (form, drop (length (form_text form)) p.last.ahead, record { here = h.here; longest = h.longest; means_none = none }, refl), refl)
-token_by cursor p form h (inl (kind, m)) more =
+token_by cursor p form h (inl (meaning, m)) more =
     let rest : Text = drop (length (form_text form)) p.last.ahead in
-    let token : Token = record { kind = kind; from = p.last.at; to = p.last.at + length (form_text form) } in
+    let token : Spelled = record { meaning = meaning; from = p.last.at; to = p.last.at + length (form_text form) } in
     let e = ap length h.here.text_is in
     let l : length rest < length p.last.ahead = omega (arith, form_long form p.last.first rest h.here.fits, length-append (form_text form) rest) in
     let r = more (moved (form_text form) p.last rest) l in
@@ -232,7 +230,7 @@ reading : (fuel : ℕ) (cursor : Cursor) → length cursor.ahead ≤ fuel → Is
 reading zero cursor h = let p = past_gap (length cursor.ahead) cursor (omega arith) in reading_by cursor p p.last.ahead refl (λ next l. absurd (let s = p.short in omega arith))
 reading (suc fuel) cursor h = let p = past_gap (length cursor.ahead) cursor (omega arith) in reading_by cursor p p.last.ahead refl (λ next l. reading fuel next (let s = p.short in omega arith))
 
-either_by : (bytes : Text) (tokens : List Token) (outcome : Outcome) → Reads tokens outcome (start bytes) → ((tokens : List Token) × Lexes bytes tokens) ⊎ ((rule : LexRule) × (place : ℕ) × IsRefused bytes rule place)
+either_by : (bytes : Text) (tokens : List Spelled) (outcome : Outcome) → Reads tokens outcome (start bytes) → ((tokens : List Spelled) × Lexes bytes tokens) ⊎ ((rule : LexRule) × (place : ℕ) × IsRefused bytes rule place)
 either_by bytes tokens Whole r = inl (tokens, r)
 either_by bytes tokens (Broken rule place) r = inr (rule, place, (tokens, r))
 

@@ -66,15 +66,20 @@ pub record IsInteger (base : Base) (digits suffix : Text) (value : ℕ) (decimal
   pub unsigned_is : unsigned ≡ list_any is_u suffix
   pub long_is : long ≡ list_any is_l suffix
 
--- the kind of token that a form is
-abbrev pub Means : Form → Kind → Type 0
-Means (Word text) (k.Keyword keyword) = text ≡ keyword_text keyword
-Means (Word text) (k.Name name) = (text ≡ name) × NoKeyword text × (length text ≤ 255)
-Means (Number base digits suffix) (k.Integer value decimal unsigned long) = IsInteger base digits suffix value decimal unsigned long
-Means (Quoted Single body) (k.Character value) = (byte : ℕ) × StandsFor body (byte ∷ []) × (value ≡ cast_signed w8 byte)
-Means (Quoted Double body) (k.Text bytes) = StandsFor body bytes
-Means (Mark punct) (k.Punct p) = punct ≡ p
-Means (Line include) (k.Include i) = include ≡ i
+-- what a token means: a name, or what has no name
+pub data Meaning : Type 0 where
+  Name : (text : Text) → Meaning
+  Other : (kind : Kind) → Meaning
+
+-- the meaning of a form
+abbrev pub Means : Form → Meaning → Type 0
+Means (Word text) (Name name) = (text ≡ name) × NoKeyword text × (length text ≤ 255)
+Means (Word text) (Other (k.Keyword keyword)) = text ≡ keyword_text keyword
+Means (Number base digits suffix) (Other (k.Integer value decimal unsigned long)) = IsInteger base digits suffix value decimal unsigned long
+Means (Quoted Single body) (Other (k.Character value)) = (byte : ℕ) × StandsFor body (byte ∷ []) × (value ≡ cast_signed w8 byte)
+Means (Quoted Double body) (Other (k.Text bytes)) = StandsFor body bytes
+Means (Mark punct) (Other (k.Punct p)) = punct ≡ p
+Means (Line include) (Other (k.Include i)) = include ≡ i
 Means _ _ = ⊥
 
 -- the rule that a form breaks which means nothing: a name is too long, a number too large, a literal has a bad escape or

@@ -1,15 +1,11 @@
 -- Which bytes are which tokens, and which rule they break first.
-use Rattle.std.specs.Prelude.{◌≡◌, ◌≢◌, ℕ, ◌+◌, ◌≤◌, Bool, true, false, not, ◌&&◌, ◌||◌, ◌==◌, ◌⊎◌, if◌then◌else◌, List, [], ◌∷◌, ◌++◌, length, codes, Result, Ok, Err}
+use Rattle.std.specs.Prelude.{◌≡◌, ◌≢◌, ℕ, ◌+◌, ◌≤◌, Bool, true, false, not, ◌&&◌, ◌||◌, ◌==◌, ◌⊎◌, if◌then◌else◌, List, [], ◌∷◌, ◌++◌, length, codes}
 use Rattle.std.specs.List.{list_all}
-use Rattle.pa_num.specs.declared.fault.Fault.{Fault}
-use Rattle.pa_num.specs.declared.fault.Fault.TheVariants.{Refused, Memory}
-use Rattle.pa_lex.specs.declared.token.Kind.{Kind}
-use Rattle.pa_lex.specs.declared.token.Token.{Token}
 use Rattle.pa_lex.specs.declared.token.LexRule.{LexRule}
 use Rattle.pa_lex.specs.declared.token.LexRule.TheVariants.{X1, X2, X4}
 use Rattle.pa_lex.specs.Texts.{Text}
 use Rattle.pa_lex.specs.Bytes.{is_white, is_line_feed, begins}
-use Rattle.pa_lex.specs.Forms.{Form, form_text, Fits, Means, rule_of}
+use Rattle.pa_lex.specs.Forms.{Form, form_text, Fits, Meaning, Means, rule_of}
 
 -- what separates tokens (C11 6.4.9): a white byte, a comment up to the first `*/`, a comment up to the line's end
 pub data Separator : Type 0 where
@@ -74,11 +70,17 @@ pub record IsFormAt (form : Form) (cursor : Cursor) (rest : Text) : Type 0 where
 abbrev pub IsLongest : Form → Cursor → Type 0
 IsLongest form cursor = (other : Form) (rest : Text) → IsFormAt other cursor rest → length (form_text other) ≤ length (form_text form)
 
+-- a token with its place, whose name is not yet a number
+pub record Spelled : Type 0 where
+  pub meaning : Meaning
+  pub from : ℕ
+  pub to : ℕ
+
 -- the token at a place: no comment and no longer token begins there
-pub record IsTokenAt (token : Token) (form : Form) (cursor : Cursor) (rest : Text) : Type 0 where
+pub record IsTokenAt (token : Spelled) (form : Form) (cursor : Cursor) (rest : Text) : Type 0 where
   pub here : IsFormAt form cursor rest
   pub longest : IsLongest form cursor
-  pub means : Means form token.kind
+  pub means : Means form token.meaning
   pub from_is : token.from ≡ cursor.at
   pub to_is : token.to ≡ cursor.at + length (form_text form)
 
@@ -106,7 +108,7 @@ rule_at cursor = if opens cursor.ahead then X2 else (if is_directive cursor then
 pub record IsEmptyAt (form : Form) (cursor : Cursor) (rest : Text) : Type 0 where
   pub here : IsFormAt form cursor rest
   pub longest : IsLongest form cursor
-  pub means_none : (kind : Kind) → Means form kind → ⊥
+  pub means_none : (meaning : Meaning) → Means form meaning → ⊥
 
 abbrev pub Breaks : LexRule → Cursor → Type 0
 Breaks rule cursor =
@@ -122,29 +124,23 @@ Stops Whole cursor = cursor.ahead ≡ []
 Stops (Broken rule place) cursor = Breaks rule cursor × (place ≡ cursor.at)
 
 -- from a place on stand separators and these tokens in turn, and separators up to that outcome
-abbrev pub Reads : List Token → Outcome → Cursor → Type 0
+abbrev pub Reads : List Spelled → Outcome → Cursor → Type 0
 Reads [] outcome cursor = (gap : List Separator) × (last : Cursor) × Gap gap cursor last × Stops outcome last
 Reads (token ∷ tokens) outcome cursor =
     (gap : List Separator) × (begin : Cursor) × (form : Form) × (rest : Text) × Gap gap cursor begin × IsTokenAt token form begin rest
     × Reads tokens outcome (moved (form_text form) begin rest)
 
 -- the bytes are these tokens
-abbrev pub Lexes : Text → List Token → Type 0
+abbrev pub Lexes : Text → List Spelled → Type 0
 Lexes bytes tokens = Reads tokens Whole (start bytes)
 
 -- the bytes break that rule first, at that place
 abbrev pub IsRefused : Text → LexRule → ℕ → Type 0
-IsRefused bytes rule place = (tokens : List Token) × Reads tokens (Broken rule place) (start bytes)
+IsRefused bytes rule place = (tokens : List Spelled) × Reads tokens (Broken rule place) (start bytes)
 
 -- the bytes are one list of tokens, or break one rule first at one place
 pub record IsSettled (bytes : Text) : Type 0 where
-  pub one : (tokens others : List Token) → Lexes bytes tokens → Lexes bytes others → tokens ≡ others
+  pub one : (tokens others : List Spelled) → Lexes bytes tokens → Lexes bytes others → tokens ≡ others
   pub one_rule : (rule other : LexRule) (place at : ℕ) → IsRefused bytes rule place → IsRefused bytes other at → (rule ≡ other) × (place ≡ at)
-  pub not_both : (tokens : List Token) (rule : LexRule) (place : ℕ) → Lexes bytes tokens → IsRefused bytes rule place → ⊥
-  pub either : ((tokens : List Token) × Lexes bytes tokens) ⊎ ((rule : LexRule) × (place : ℕ) × IsRefused bytes rule place)
-
--- what `lex` answers
-abbrev pub IsAnswer : Text → Result (List Token) (Fault LexRule) → Type 0
-IsAnswer bytes (Ok tokens) = Lexes bytes tokens
-IsAnswer bytes (Err (Refused rule place)) = IsRefused bytes rule place
-IsAnswer bytes (Err Memory) = Unit {0}
+  pub not_both : (tokens : List Spelled) (rule : LexRule) (place : ℕ) → Lexes bytes tokens → IsRefused bytes rule place → ⊥
+  pub either : ((tokens : List Spelled) × Lexes bytes tokens) ⊎ ((rule : LexRule) × (place : ℕ) × IsRefused bytes rule place)

@@ -3,6 +3,7 @@ pub mod Forms
 pub mod Inside
 pub mod Lexes
 pub mod Literals
+pub mod Numbering
 pub mod Reading
 pub mod Shapes
 pub mod Texts

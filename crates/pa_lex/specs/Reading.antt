@@ -18,11 +18,9 @@ use Rattle.pa_lex.specs.Bytes.{is_letter, is_word, is_white, is_line_feed, is_bl
 use Rattle.pa_lex.specs.Literals.{prefix, radix, is_u, is_l, Piece, Plain, Simple, OctalEscape, HexadecimalEscape, piece_text, piece_value, simple_escape, StandsFor}
 use Rattle.pa_num.specs.declared.fault.Fault.{Fault}
 use Rattle.pa_num.specs.declared.fault.Fault.TheVariants.{Refused, Memory}
-use Rattle.pa_lex.specs.declared.token.Kind.{Kind}
-use Rattle.pa_lex.specs.declared.token.Token.{Token}
 use Rattle.pa_lex.specs.declared.token.LexRule.{LexRule}
-use Rattle.pa_lex.specs.Forms.{Form, Word, Number, Quoted, Mark, Line, quote_byte, form_text, Means}
-use Rattle.pa_lex.specs.Lexes.{Separator, White, BlockComment, LineComment, separator_text, Cursor, opens_comment, moved, Gap, IsTokenAt, Breaks}
+use Rattle.pa_lex.specs.Forms.{Form, Word, Number, Quoted, Mark, Line, quote_byte, form_text, Meaning, Means}
+use Rattle.pa_lex.specs.Lexes.{Separator, White, BlockComment, LineComment, separator_text, Cursor, opens_comment, moved, Gap, Spelled, IsTokenAt, Breaks}
 
 -- what a byte can begin
 abbrev pub class_of : ℕ → Class
@@ -197,10 +195,10 @@ pub record Skips (old new : Cursor) : Type 0 where
 abbrev pub form_here : Cursor → Option Form
 form_here cursor = if opens_comment cursor.ahead then None else form_at cursor.first cursor.ahead
 
--- what a form is, if it means something
-abbrev pub IsKind : Form → Option Kind → Type 0
-IsKind form None = (kind : Kind) → Means form kind → ⊥
-IsKind form (Some kind) = Means form kind
+-- what a form means, if it means something
+abbrev pub IsMeaning : Form → Option Meaning → Type 0
+IsMeaning form None = (meaning : Meaning) → Means form meaning → ⊥
+IsMeaning form (Some meaning) = Means form meaning
 
 -- what a literal's body stands for, if it stands for bytes
 abbrev pub IsStoodFor : Text → Option (List ℕ) → Type 0
@@ -220,7 +218,7 @@ keyword_of [] = None
 keyword_of (c ∷ t) = find_keyword c (c ∷ t)
 
 -- what `token` answers, where a token or a broken rule is next
-abbrev pub TakesToken : Cursor → Result Token (Fault LexRule) → Cursor → Type 0
+abbrev pub TakesToken : Cursor → Result Spelled (Fault LexRule) → Cursor → Type 0
 TakesToken old (Ok token) new = (form : Form) × (rest : Text) × IsTokenAt token form old rest × (new ≡ moved (form_text form) old rest)
 TakesToken old (Err (Refused rule place)) new = Breaks rule old × (place ≡ old.at)
 TakesToken old (Err Memory) new = Unit {0}

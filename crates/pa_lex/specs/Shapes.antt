@@ -1,7 +1,14 @@
 -- Forms of the program as plain data.
-use Rattle.std.specs.Prelude.{Option, Some, None}
+use Rattle.std.specs.Prelude.{Option, Some, None, Result, Ok, Err}
+use Rattle.pa_num.specs.declared.fault.Fault.{Fault}
 use Rattle.pa_lex.specs.declared.form.Form.{Form}
 use Rattle.pa_lex.specs.declared.form.Form.TheVariants as f
+use Rattle.pa_lex.specs.declared.meaning.Meaning.{Meaning}
+use Rattle.pa_lex.specs.declared.meaning.Meaning.TheVariants as m
+use Rattle.pa_lex.specs.declared.meaning.Spelled.{Spelled}
+use Rattle.pa_lex.specs.declared.token.Kind.{Kind}
+use Rattle.pa_lex.specs.declared.token.LexRule.{LexRule}
+use Rattle.pa_lex.specs.Lexes as lexes
 use Rattle.pa_lex.specs.Forms as spec
 
 abbrev pub shown : Form → spec.Form
@@ -14,3 +21,22 @@ shown (f.Line include) = spec.Line include
 abbrev pub shown_option : Option Form → Option spec.Form
 shown_option None = None
 shown_option (Some form) = Some (shown form)
+
+abbrev pub meaning_of : Meaning → spec.Meaning
+meaning_of (m.Name text) = spec.Name text.now
+meaning_of (m.Other kind) = spec.Other kind
+
+abbrev pub meant : Option Meaning → Option spec.Meaning
+meant None = None
+meant (Some meaning) = Some (meaning_of meaning)
+
+abbrev pub other : Option Kind → Option spec.Meaning
+other None = None
+other (Some kind) = Some (spec.Other kind)
+
+abbrev pub spelled_of : Spelled → lexes.Spelled
+spelled_of token = record { meaning = meaning_of token.meaning; from = token.from; to = token.to }
+
+abbrev pub taken : Result Spelled (Fault LexRule) → Result lexes.Spelled (Fault LexRule)
+taken (Ok token) = Ok (spelled_of token)
+taken (Err fault) = Err fault

@@ -3,15 +3,17 @@
 
 mod byte;
 mod form;
-mod kind;
 mod lexer;
 mod literal;
+mod meaning;
+mod names;
 mod reader;
 mod table;
 mod token;
 
-pub use lexer::lex;
-pub use token::{Include, Keyword, Kind, LexRule, Punct, Token, Tokens};
+pub use lexer::{Lexed, lex};
+pub use names::Names;
+pub use token::{Include, Keyword, Kind, LexRule, NameNumber, Punct, Token, Tokens};
 
 #[cfg(test)]
 mod tests;

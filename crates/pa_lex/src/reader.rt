@@ -4,11 +4,12 @@ ghost use Rattle.pa_num.specs.declared.fault.Fault.TheVariants.{Refused};
 ghost use Rattle.pa_lex.specs.Bytes.{is_line_feed};
 ghost use Rattle.pa_lex.specs.Lexes as lexes;
 ghost use Rattle.pa_lex.specs.Reading as reading;
-ghost use Rattle.pa_lex.specs.Shapes.{shown_option};
+ghost use Rattle.pa_lex.specs.Shapes.{shown_option, taken};
 
 use crate::byte;
 use crate::form::{self, Form};
-use crate::token::{LexRule, Token};
+use crate::meaning::Spelled;
+use crate::token::LexRule;
 use pa_num::Fault;
 use std::alloc::Global;
 use std::marker::Model;
@@ -197,20 +198,20 @@ impl<'a> Reader<'a> {
     }
 
     /// The token here, which is then behind the reader.
-    pub fn token(&mut self, alloc: Global) -> Result<Token, Fault<LexRule>>
+    pub fn token(&mut self, alloc: Global) -> Result<Spelled<'a>, Fault<LexRule>>
         requires more { self.old.ahead ≢ [] }
         requires stops { reading.separator_at self.old.ahead ≡ None }
-        ensures { reading.TakesToken self.old result self.new }
+        ensures { reading.TakesToken self.old (taken result) self.new }
     {
         let from = self.place();
         let Some(form) = self.form() else {
             return Err(refused(self.rule(), from));
         };
-        let Some(kind) = form.kind(alloc)? else {
+        let Some(meaning) = form.meaning(alloc)? else {
             return Err(refused(form.rule(), from));
         };
         self.advance(form.len());
         let to = self.place();
-        Ok(Token { kind, from, to })
+        Ok(Spelled { meaning, from, to })
     }
 }

@@ -1,4 +1,7 @@
-use pa_num::{Bytes, Name, Sequence};
+use pa_num::{Bytes, Sequence};
+
+/// The number of a name: how many stand before it in the list of the file's names (`Names`).
+pub type NameNumber = u32;
 
 /// A keyword of C11 (6.4.1), or `__ptrauth`.
 #[derive(Clone, Copy, Debug, PartialEq, Eq)]
@@ -112,8 +115,8 @@ pub enum Include {
 /// What a token is.
 #[derive(Debug, Drop)]
 pub enum Kind {
-    /// An identifier (6.4.2) that is no keyword, of 1 to 255 bytes.
-    Name(Name),
+    /// An identifier (6.4.2) that is no keyword, of 1 to 255 bytes, by its number.
+    Name(NameNumber),
     Keyword(Keyword),
     /// An integer constant (6.4.4.1). `decimal`: its base is 10. `unsigned`: it has a suffix `u`. `long`: it has a suffix
     /// `l` or `ll`.

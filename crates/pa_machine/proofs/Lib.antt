@@ -1,3 +1,4 @@
+pub mod Keeping
 pub mod Regions
 pub mod Room
 pub mod Runs

@@ -1,2 +1,3 @@
 pub mod Running
 pub mod Items
+pub mod Kept

@@ -1,22 +1,30 @@
 //! The machine, step by step.
 
-ghost use Rattle.std.specs.Prelude.{◌≡◌, ◌+◌, ◌-◌, ◌*◌, ◌^◌, ◌<◌, ◌≤◌, length, IfOk, OnOk, OnErr, None, [], ℕ, true};
+ghost use Rattle.std.specs.Prelude.{◌≡◌, ◌+◌, ◌-◌, ◌*◌, ◌^◌, ◌<◌, ◌≤◌, length, IfOk, IfErr, OnOk, OnErr, Some, None, [], ℕ, true};
 ghost use Rattle.pa_object.specs.Machine.{begun};
 ghost use Rattle.pa_object.specs.Run.{step, run, end_of, applied, applied_all};
 ghost use Rattle.pa_object.specs.Script.{deed_fits, all_fit, copy_is_short, all_lines, ordered_from, is_script};
 ghost use Rattle.pa_machine.specs.Items.{IsRest};
 ghost use Rattle.pa_machine.specs.Running.{went};
+ghost use Rattle.pa_processor.specs.Processor.{Traps, instruction_at};
 
+use crate::kept::Kept;
 use crate::went::Went;
+use pa_a64::Instr;
 use pa_log::Log;
+use pa_mem::Space;
 use pa_num::{Bytes, Memory};
-use pa_object::{End, Item};
+use pa_object::{End, Flags, Item, Trap};
 use pa_pac::Pac;
 use pa_processor::{Loaded, Processor};
 use std::alloc::Global;
 use std::marker::Model;
 
-const STEPS_AT_A_TIME: u32 = 4096;
+/// Room is made for no more steps than that at a time.
+const MOST_STEPS: u32 = 4096;
+
+/// Room is made for as many steps as have run, and at first for so many.
+const FIRST_STEPS: u32 = 64;
 
 // The items of this number or above it.
 fn items_from(items: &[Item], number: u32) -> &[Item]
@@ -39,6 +47,7 @@ fn items_from(items: &[Item], number: u32) -> &[Item]
 #[derive(Drop)]
 pub struct Machine<'a, P: Pac> {
     processor: Processor,
+    kept: Kept,
     spare: u32,
     p: &'a P,
 }
@@ -46,13 +55,15 @@ pub struct Machine<'a, P: Pac> {
 impl<'a, P: Pac> Model for Machine<'a, P> {
     ghost use Rattle.std.specs.Prelude.{◌+◌, ◌*◌, ◌≤◌, length};
     ghost use Rattle.pa_machine.specs.Running.{Running};
+    ghost use Rattle.pa_machine.specs.Kept.{IsKept};
 
     ghost Value = { Running P };
 
     ghost view = { λ m. record { machine = m.processor.machine; spare = m.spare; pac = m.p.now } };
 
     ghost invariant = { λ m. (length m.processor.machine.log + 2 * m.spare ≤ m.processor.log_limit)
-        × (length m.processor.machine.output + m.spare ≤ m.processor.output_limit) };
+        × (length m.processor.machine.output + m.spare ≤ m.processor.output_limit)
+        × IsKept m.kept m.processor.machine.memory };
 }
 
 impl<'a, P: Pac> Machine<'a, P> {
@@ -68,12 +79,24 @@ impl<'a, P: Pac> Machine<'a, P> {
         ensures pac { IfOk result (λ made. made.pac ≡ p.now) }
     {
         let input = Bytes::from_slice(alloc, input)?;
+        let kept = Kept::new(alloc, &loaded.space)?;
         let processor = Processor::new(alloc, loaded, input);
         Ok(Machine {
             processor,
+            kept,
             spare: 0,
             p,
         })
+    }
+
+    /// The same machine with these numbers in the registers x0 to x30.
+    pub fn with_registers(mut self, registers: [u64; 31]) -> Machine<'a, P>
+        ensures machine { result.machine ≡ record self.entry.machine { registers = registers } }
+        ensures spare { result.spare ≡ self.entry.spare }
+        ensures pac { result.pac ≡ self.entry.pac }
+    {
+        self.processor.set_registers(registers);
+        self
     }
 
     /// Makes room for what so many steps print and log: two entries and a byte each.
@@ -91,7 +114,6 @@ impl<'a, P: Pac> Machine<'a, P> {
     }
 
     /// One instruction. It takes no memory.
-    #[tactic(auto, using(crate::proofs::Room::step_logs, crate::proofs::Room::step_prints))]
     pub fn step(&mut self) -> Went
         requires spare { 0 < self.old.spare }
         requires goes { self.old.machine.ended ≡ None }
@@ -99,41 +121,118 @@ impl<'a, P: Pac> Machine<'a, P> {
         ensures new { self.new ≡ record self.old { machine = step (P.code self.old.pac) self.old.machine; spare = self.old.spare - 1 } }
         ensures went { result ≡ went self.new.machine.ended }
     {
-        self.spare -= 1;
-        self.processor.step(self.p);
+        match self.instruction() {
+            Ok(instr) => self.step_by(instr),
+            Err(trap) => self.ends(trap),
+        }
         match self.processor.ended() {
             None => Went::Goes,
             Some(end) => Went::Ended(end),
         }
     }
 
-    fn ended(&self) -> Option<End>
-        ensures { result ≡ self.now.machine.ended }
+    // One instruction, which is the one at the place.
+    #[tactic(auto, using(crate::proofs::Room::step_logs, crate::proofs::Room::step_prints, crate::proofs::Keeping::kept_step))]
+    fn step_by(&mut self, instr: Instr)
+        requires instr { instruction_at self.old.machine.memory self.old.machine.pc ≡ Some instr }
+        requires spare { 0 < self.old.spare }
+        requires count { self.old.machine.count < 2 ^ 32 - 1 }
+        ensures { self.new ≡ record self.old { machine = step (P.code self.old.pac) self.old.machine; spare = self.old.spare - 1 } }
     {
-        self.processor.ended()
+        self.spare -= 1;
+        self.processor.step_by(self.p, instr);
     }
 
-    fn count(&self) -> u32
+    // There is no instruction at the place.
+    fn ends(&mut self, trap: Trap)
+        requires trap { Traps trap self.old.machine }
+        requires spare { 0 < self.old.spare }
+        ensures { self.new ≡ record self.old { machine = step (P.code self.old.pac) self.old.machine; spare = self.old.spare - 1 } }
+    {
+        self.spare -= 1;
+        self.processor.ends(trap);
+    }
+
+    // The instruction at the place of the next one, which is decoded where it is met first.
+    fn instruction(&mut self) -> Result<Instr, Trap>
+        ensures instr { IfOk result (λ instr. instruction_at self.new.machine.memory self.new.machine.pc ≡ Some instr) }
+        ensures trap { IfErr result (λ trap. Traps trap self.new.machine) }
+        ensures same { self.new ≡ self.old }
+    {
+        let at = self.processor.pc();
+        if let Some(instr) = self.kept.get(at) {
+            return Ok(instr);
+        }
+        let instr = self.processor.instruction()?;
+        self.kept.keep(at, instr);
+        Ok(instr)
+    }
+
+    /// The registers x0 to x30.
+    pub fn registers(&self) -> &[u64; 31]
+        ensures { result.now ≡ self.now.machine.registers }
+    {
+        self.processor.registers()
+    }
+
+    /// The stack pointer.
+    pub fn sp(&self) -> u64
+        ensures { result ≡ self.now.machine.sp }
+    {
+        self.processor.sp()
+    }
+
+    /// The condition flags.
+    pub fn flags(&self) -> Flags
+        ensures { result ≡ self.now.machine.flags }
+    {
+        self.processor.flags()
+    }
+
+    /// The place of the next instruction.
+    pub fn pc(&self) -> u64
+        ensures { result ≡ self.now.machine.pc }
+    {
+        self.processor.pc()
+    }
+
+    /// How many instructions ran.
+    pub fn count(&self) -> u32
         ensures { result ≡ self.now.machine.count }
     {
         self.processor.count()
     }
 
-    // Room for a step, made for several of those that are left at a time.
+    /// How the run has ended, if it has.
+    pub fn ended(&self) -> Option<End>
+        ensures { result ≡ self.now.machine.ended }
+    {
+        self.processor.ended()
+    }
+
+    /// The memory of the guest.
+    pub fn space(&self) -> &Space
+        ensures { result.now ≡ self.now.machine.memory }
+    {
+        self.processor.space()
+    }
+
+    // Room for a step, made for several of those that are left: as many as have run, from 64 to 4,096.
     fn make_room(&mut self, left: u32) -> Result<(), Memory>
         requires { 0 < left }
         ensures ok { OnOk result (0 < self.new.spare) }
         ensures rest { self.new ≡ record self.old { spare = self.new.spare } }
     {
         if self.spare == 0 {
-            self.reserve(left.min(STEPS_AT_A_TIME))?;
+            let several = self.count().clamp(FIRST_STEPS, MOST_STEPS);
+            self.reserve(left.min(several))?;
         }
         Ok(())
     }
 
     /// Runs until `bound` instructions ran in all, unless the program or a trap ends the run before. Before each instruction
     /// the items of its number are applied. Those below the count that the machine begins with are never applied, and
-    /// neither are those of the bound or above it. Room is made for 4,096 steps at a time; after want of memory the machine
+    /// neither are those of the bound or above it. Room is made for at most 4,096 steps at a time; after want of memory the machine
     /// stands where a run for fewer instructions does.
     pub fn run(&mut self, script: &[Item], bound: u32) -> Result<End, Memory>
         requires script { is_script script.now ≡ true }
@@ -209,6 +308,7 @@ impl<'a, P: Pac> Machine<'a, P> {
     {
         let Machine {
             processor,
+            kept: _,
             spare: _,
             p: _,
         } = self;

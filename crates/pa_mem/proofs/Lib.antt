@@ -1,5 +1,6 @@
 pub mod Apart
 pub mod Bytes
+pub mod Exclusive
 pub mod Fetches
 pub mod Found
 pub mod Numbers

@@ -1,3 +1,4 @@
 pub mod Access
+pub mod Extents
 pub mod Memory
 pub mod Place

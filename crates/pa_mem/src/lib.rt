@@ -8,4 +8,5 @@ mod space;
 mod tests;
 
 pub use access::{Abort, Rights, Size};
+pub use mapping::Extent;
 pub use space::{COPY_LIMIT, Space};

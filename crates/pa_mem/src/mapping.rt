@@ -1,10 +1,19 @@
 ghost use Rattle.std.specs.Prelude.{◌≡◌, ◌≤◌, ◌+◌, length};
 ghost use Rattle.pa_mem.specs.Memory.{offers, region_of};
 ghost use Rattle.pa_mem.specs.Place.{patched};
+ghost use Rattle.pa_mem.specs.Extents.{extent_of, is_exclusive};
 
 use crate::access::Rights;
 use pa_num::Bytes;
 use std::marker::Model;
+
+/// Where a region begins, how many bytes it has, and what may be done with them.
+#[derive(Clone, Copy, Debug, PartialEq, Eq)]
+pub struct Extent {
+    pub base: u64,
+    pub len: u64,
+    pub rights: Rights,
+}
 
 /// A region: bytes from an address on, and what may be done with them.
 #[derive(Debug, Drop)]
@@ -44,6 +53,23 @@ impl Mapping {
             }
             None => false,
         }
+    }
+
+    pub fn extent(&self) -> Extent
+        ensures { result ≡ extent_of self.now }
+    {
+        Extent {
+            base: self.base,
+            len: self.bytes.len() as u64,
+            rights: self.rights,
+        }
+    }
+
+    /// Whether it may not be both written and run.
+    pub fn is_exclusive(&self) -> bool
+        ensures { result ≡ is_exclusive self.now }
+    {
+        !(self.rights.write && self.rights.run)
     }
 
     /// Puts these bytes in the place of those from `start` on.

@@ -25,7 +25,7 @@ use Rattle.pa_object.specs.Machine.{Machine}
 use Rattle.pa_object.specs.Traps.{trap_of}
 use Rattle.pa_object.specs.Effects.{effect}
 use Rattle.pa_object.specs.Run.{step, on_word, on_instr, unless_trap, unless_ended, advance, applied_all, Place, Watched, trailed, placed, watched_once, watched}
-use Rattle.pa_object.proofs.Placed.{Stands}
+use Rattle.pa_object.specs.Placed.{Stands}
 
 -- ---- numbers of 64 bits
 

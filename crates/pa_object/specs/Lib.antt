@@ -1,7 +1,12 @@
 pub mod Effects
+pub mod Filled
 pub mod Linkable
 pub mod Machine
+pub mod Marked
+pub mod Placed
+pub mod Rows
 pub mod Run
 pub mod Script
 pub mod Shape
+pub mod Stub
 pub mod Traps

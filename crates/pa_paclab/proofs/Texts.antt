@@ -1,37 +1,24 @@
--- Texts that go with what a shelf tells.
-use Rattle.std.proofs.Common.{◌≡◌, ℕ, ◌+◌, ◌<◌, ◌≤◌, List, length, refl, arith, Option, Result, Ok, Err, OnOk, OnErr}
-use Rattle.std.specs.Prelude.{replicate}
-use Rattle.std.proofs.lemmas.List.{length-replicate, take_all}
-use Rattle.pa_paclab.specs.declared.exit.Exit.{Exit}
-use Rattle.pa_paclab.specs.declared.exit.Exit.TheVariants as exit
-use Rattle.pa_paclab.specs.Answers.{OnStop}
-use Rattle.pa_io.specs.Outside.{Told, Untold, Missing, Holds, IsFile, IsLonger, Grew, GrewByPrefix}
+-- What follows where the text that was read has a report.
+use Rattle.std.proofs.Common.{◌≡◌, ℕ, List, Option, Some, None, sym, subst}
+use Rattle.std.specs.Prelude.{IsSomeAnd}
+use Rattle.pa_pac.specs.Signing.{Code}
+use Rattle.pa_paclab.specs.Answers.{Reading, WasRead, ReadText, IsAccepted, IsReport}
 
--- a file that is longer than a limit has some text that is so
-pub longer_text : (told : Told) (limit : ℕ) → IsLonger told limit → (text : List ℕ) × IsFile told text × (limit < length text)
-longer_text Untold limit longer =
-    let zeros : List ℕ = replicate (limit + 1) 0 in
-    (zeros, tt, rw length-replicate (omega arith))
-longer_text Missing limit longer = absurd longer
-longer_text (Holds text) limit longer = (text, refl, longer)
+abbrev Reported : Option (List ℕ) → Reading → Code → List ℕ → Type 0
+Reported file reading code report = IsSomeAnd file (λ name. ReadText reading name (λ text. IsReport code text report))
 
--- what is wholly written is a prefix too
-pub GrewByPrefix-all : (before now : Option (List ℕ)) (bytes : List ℕ) → Grew before now bytes → GrewByPrefix before now bytes
-GrewByPrefix-all before now bytes grew =
-    let within : length bytes ≤ length bytes = omega arith in
-    (length bytes, within, rw take_all grew)
+pub found : (file : Option (List ℕ)) (name text : List ℕ) (reading : Reading) (code : Code) (report : List ℕ) → file ≡ Some name
+    → WasRead reading name text → IsReport code text report → Reported file reading code report
+found file name text reading code report e read is =
+    subst (λ (f : Option (List ℕ)). Reported f reading code report) (sym e) (text, read, is)
 
--- a text is written, or a prefix of it
-pub written_partly : {E : Type 0} (answer : Result (Unit {0}) E) (before now : Option (List ℕ)) (bytes : List ℕ)
-    → OnOk answer (Grew before now bytes) → OnErr answer (GrewByPrefix before now bytes) → GrewByPrefix before now bytes
-written_partly (Ok done) before now bytes all part = GrewByPrefix-all before now bytes all
-written_partly (Err error) before now bytes all part = part
+pub accepted : (file : Option (List ℕ)) (reading : Reading) (code : Code) (report : List ℕ) → Reported file reading code report
+    → IsSomeAnd file (λ name. ReadText reading name IsAccepted)
+accepted None reading code report r = absurd r
+accepted (Some name) reading code report r = (r.0, r.1, (r.2.program, r.2.accepts))
 
-pub OnStop-always : {P : Type 0} (answer : Exit) → P → OnStop answer P
-OnStop-always exit.Done p = tt
-OnStop-always exit.WriteFault p = tt
-OnStop-always (exit.Usage fault) p = p
-OnStop-always (exit.Refused refusal) p = p
-OnStop-always (exit.ReadFault file) p = p
-OnStop-always exit.InputFault p = p
-OnStop-always exit.Memory p = p
+pub printed : (Written : Option (List ℕ) → Option (List ℕ) → List ℕ → Type 0) (before now file : Option (List ℕ)) (reading : Reading)
+    (code : Code) (report : List ℕ) → Reported file reading code report → Written before now report
+    → IsSomeAnd file (λ name. ReadText reading name (λ text. (whole : List ℕ) × IsReport code text whole × Written before now whole))
+printed Written before now None reading code report r w = absurd r
+printed Written before now (Some name) reading code report r w = (r.0, r.1, (report, r.2, w))

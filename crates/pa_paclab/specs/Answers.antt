@@ -1,6 +1,7 @@
 -- When each answer of the top call comes, and what is written then.
 use Rattle.std.specs.Prelude.{◌≡◌, ℕ, ◌<◌, ◌≤◌, List, [], length, false, ⊤, ◌⊎◌, Option, Some, None, IsSomeAnd}
-use Rattle.pa_io.specs.Outside.{Told, Untold, Missing, Holds, IsFile, Rose}
+use Rattle.pa_io.specs.declared.outside.Given.{Given}
+use Rattle.pa_io.specs.Outside.{Told, Untold, Missing, Holds, IsFile, IsGiven, IsLonger, Rose, Grew, GrewByProperPrefix}
 use Rattle.pa_pac.specs.Signing.{Code}
 use Rattle.pa_pac.specs.Log.{Log}
 use Rattle.pa_object.specs.declared.end.End.{End}
@@ -22,6 +23,7 @@ use Rattle.pa_paclab.specs.declared.exit.UseFault.TheVariants.{U1}
 use Rattle.pa_paclab.specs.declared.exit.Refusal.{Refusal}
 use Rattle.pa_paclab.specs.declared.exit.Rule.{Rule}
 use Rattle.pa_paclab.specs.declared.exit.Rule.TheVariants.{M6, N1}
+use Rattle.pa_paclab.specs.Lines.{line_of}
 
 -- ---- texts
 
@@ -50,41 +52,78 @@ pub record Accepts (text : List ℕ) (program : Straight) : Type 0 where
 abbrev pub IsAccepted : List ℕ → Type 0
 IsAccepted text = (program : Straight) × Accepts text program
 
--- some text that goes with what the shelf tells of a name is so
-abbrev pub SomeText : Told → (List ℕ → Type 0) → Type 0
-SomeText told P = (text : List ℕ) × IsFile told text × P text
-
 -- the shelf tells a text, and it is so
 abbrev pub KnownText : Told → (List ℕ → Type 0) → Type 0
 KnownText Untold P = ⊥
 KnownText Missing P = ⊥
 KnownText (Holds text) P = P text
 
--- ---- causes
+-- ---- what a call saw and did
 
--- what a call saw of its shelf: what it tells of each name, its count of faults before and now, and its failed name
+-- what a call saw of its shelf: what it tells of each name, and before the call and now the file that it gave last, its count
+-- of faults and its failed name
 pub record Reading : Type 0 where
   pub told : List ℕ → Told
+  pub given_before : Option Given
+  pub given_now : Option Given
   pub faults_before : ℕ
   pub faults_now : ℕ
+  pub failed_before : Option (List ℕ)
   pub failed_now : Option (List ℕ)
+
+-- a call: the file that the words ask to run, the PAC function, what was seen of the shelf, and before the call and now what the
+-- sink tells and its count of faults
+pub record Call : Type 0 where
+  pub file : Option (List ℕ)
+  pub code : Code
+  pub reading : Reading
+  pub written_before : Option (List ℕ)
+  pub written_now : Option (List ℕ)
+  pub write_faults_before : ℕ
+  pub write_faults_now : ℕ
+
+-- this text was read under the name: it is the file's where the shelf tells that, and else what the shelf gave
+abbrev pub WasRead : Reading → List ℕ → List ℕ → Type 0
+WasRead reading name text =
+    IsFile (reading.told name) text × IsGiven (reading.told name) reading.given_before reading.given_now name text
+
+-- a text that was read is so
+abbrev pub ReadText : Reading → List ℕ → (List ℕ → Type 0) → Type 0
+ReadText reading name P = (text : List ℕ) × WasRead reading name text × P text
+
+-- no text was read
+abbrev pub NothingRead : Reading → Type 0
+NothingRead reading = reading.given_now ≡ reading.given_before
+
+-- the shelf's faults are as before the call
+abbrev pub NoReadFault : Reading → Type 0
+NoReadFault reading = (reading.faults_now ≡ reading.faults_before) × (reading.failed_now ≡ reading.failed_before)
+
+-- ---- causes
 
 -- the reading of this file failed
 pub record Failed (reading : Reading) (name : List ℕ) : Type 0 where
   pub rose : Rose reading.faults_before reading.faults_now
   pub failed : reading.failed_now ≡ Some name
+  pub nothing : NothingRead reading
+
+-- the file of this name breaks the rule: it is too long to be read, or it was read
+abbrev pub FileBreaks : Rule → Reading → List ℕ → Type 0
+FileBreaks M6 reading name = IsLonger (reading.told name) most_bytes × NothingRead reading
+FileBreaks N1 reading name = ReadText reading name (Breaks N1)
 
 -- each answer of a command that runs this file, or of words that are no command, and why it comes
 abbrev pub Cause : Option (List ℕ) → Reading → Exit → Type 0
-Cause file reading exit.Done = IsSomeAnd file (λ name. SomeText (reading.told name) IsAccepted)
-Cause file reading (exit.Usage fault) = (fault ≡ U1) × (file ≡ None)
-Cause file reading (exit.Refused refusal) = IsSomeAnd file (λ name. SomeText (reading.told name) (IsRefused refusal))
+Cause file reading exit.Done = IsSomeAnd file (λ name. ReadText reading name IsAccepted)
+Cause file reading (exit.Usage fault) = (fault ≡ U1) × (file ≡ None) × NothingRead reading
+Cause file reading (exit.Refused refusal) =
+    (refusal ≡ refusal_by refusal.rule) × IsSomeAnd file (FileBreaks refusal.rule reading)
 Cause file reading (exit.ReadFault number) = (number ≡ 1) × IsSomeAnd file (Failed reading)
 Cause file reading exit.InputFault = ⊥
-Cause file reading exit.WriteFault = IsSomeAnd file (λ name. SomeText (reading.told name) IsAccepted)
+Cause file reading exit.WriteFault = IsSomeAnd file (λ name. ReadText reading name IsAccepted)
 Cause file reading exit.Memory = ⊤
 
--- this answer, but for want of memory
+-- this answer, but for out of memory
 abbrev pub IsUnlessMemory : Exit → Exit → Type 0
 IsUnlessMemory answer expected = (answer ≡ expected) ⊎ (answer ≡ exit.Memory)
 
@@ -98,7 +137,7 @@ run_of code state = run code [] 1000000 (begun_in state [])
 abbrev pub report_of : Machine → List ℕ
 report_of m = report_text m.output (end_of m) m.log false
 
--- A text's report under a function for the code: the report of the run of the image of the text's program, loaded without a
+-- A text's report under a PAC function: the report of the run of the image of the text's program, loaded without a
 -- slide. The image is legal and small, and each run of it, under every function and every slide, prints and returns what the program
 -- says, takes only what was signed, and enters the functions that the program calls.
 pub record IsReport (code : Code) (text report : List ℕ) : Type 0 where
@@ -111,9 +150,24 @@ pub record IsReport (code : Code) (text report : List ℕ) : Type 0 where
   pub runs : Runs image program
   pub is : report ≡ report_of (run_of code (loaded code image pal 0))
 
--- a text that goes with what the shelf tells has a report, and this is written of it
-abbrev pub Prints : Told → Code → (List ℕ → Type 0) → Type 0
-Prints told code Written = SomeText told (λ text. (report : List ℕ) × IsReport code text report × Written report)
+-- the text that was read has a report, and this is written of it
+abbrev pub Prints : Call → (Option (List ℕ) → Option (List ℕ) → List ℕ → Type 0) → Type 0
+Prints call Written = IsSomeAnd call.file (λ name. ReadText call.reading name (λ text.
+    (report : List ℕ) × IsReport call.code text report × Written call.written_before call.written_now report))
+
+-- the line of an answer is written, or a proper prefix of it
+abbrev pub PrintsLine : Call → Exit → Type 0
+PrintsLine call answer =
+    Grew call.written_before call.written_now (line_of answer) ⊎ GrewByProperPrefix call.written_before call.written_now (line_of answer)
+
+-- what is written with each answer
+abbrev pub Output : Call → Exit → Type 0
+Output call exit.Done = Prints call Grew
+Output call exit.WriteFault = Prints call GrewByProperPrefix
+Output call answer = PrintsLine call answer
+
+abbrev pub WriteFaultRose : Call → Type 0
+WriteFaultRose call = Rose call.write_faults_before call.write_faults_now
 
 -- ---- one answer
 
@@ -141,10 +195,25 @@ IsStop exit.Done = ⊥
 IsStop exit.WriteFault = ⊥
 IsStop answer = ⊤
 
--- want of memory, or a rule that the text breaks
+-- ---- an answer as a whole
+
+pub record IsAnswer (call : Call) (answer : Exit) : Type 0 where
+  pub cause : Cause call.file call.reading answer
+  pub output : Output call answer
+  -- with WriteFault a write failed, with Done none, and a line is cut off only where one failed
+  pub write_fault : OnWriteFault answer (WriteFaultRose call)
+  pub no_write_fault : OnDone answer (call.write_faults_now ≡ call.write_faults_before)
+  pub whole_line : OnStop answer (¬ WriteFaultRose call → Grew call.written_before call.written_now (line_of answer))
+  pub kept : call.write_faults_before ≤ call.write_faults_now
+  -- the shelf's faults stay where no reading failed
+  pub no_read_fault : UnlessReadFault answer (NoReadFault call.reading)
+
+-- ---- parts of the call
+
+-- out of memory, or that the text is of a form that isn't built
 abbrev pub IsRefusalOf : List ℕ → Exit → Type 0
 IsRefusalOf text exit.Memory = ⊤
-IsRefusalOf text (exit.Refused refusal) = IsRefused refusal text
+IsRefusalOf text (exit.Refused refusal) = (refusal ≡ refusal_by N1) × Breaks N1 text
 IsRefusalOf text answer = ⊥
 
 -- this is the output, the end and the log of the run of the program's image

@@ -1,4 +1,5 @@
 pub mod Answers
 pub mod Exit
+pub mod Host
 pub mod Lines
 pub mod Words

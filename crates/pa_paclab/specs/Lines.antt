@@ -1,5 +1,5 @@
 -- The line that a command prints where it isn't done.
-use Rattle.std.specs.Prelude.{ℕ, List, ◌++◌, Option, Some, None, codes, decimal}
+use Rattle.std.specs.Prelude.{ℕ, List, ◌++◌, codes, decimal}
 use Rattle.pa_paclab.specs.declared.exit.Exit.{Exit}
 use Rattle.pa_paclab.specs.declared.exit.Exit.TheVariants.{Done, Usage, Refused, ReadFault, InputFault, WriteFault, Memory}
 use Rattle.pa_paclab.specs.declared.exit.UseFault.{UseFault}

@@ -48,9 +48,9 @@ pub enum Exit {
     ReadFault(u32),
     /// The source couldn't be read.
     InputFault,
-    /// The text of a command that is done couldn't be written; a prefix of it may be out.
+    /// The text of a command that is done couldn't be written; a proper prefix of it may be out.
     WriteFault,
-    /// Want of memory.
+    /// Out of memory.
     Memory,
 }
 

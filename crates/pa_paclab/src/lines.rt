@@ -1,5 +1,5 @@
 ghost use Rattle.std.specs.Prelude.{◌≡◌, ◌≤◌, ◌++◌, length, OnOk, OnErr};
-ghost use Rattle.pa_io.specs.Outside.{Rose, Grew, GrewByPrefix};
+ghost use Rattle.pa_io.specs.Outside.{Rose, Grew, GrewByProperPrefix};
 ghost use Rattle.pa_paclab.specs.Lines.{use_fault_text, rule_text, line_of};
 
 use crate::exit::{Exit, Rule, UseFault};
@@ -66,7 +66,7 @@ fn line(exit: Exit) -> Page
 /// Writes the line that tells of this end of a command.
 pub fn write_line<K: Sink>(exit: Exit, out: &mut K) -> Result<(), Failed>
     ensures all { OnOk result (Grew (K.written out.old) (K.written out.new) (line_of exit)) }
-    ensures prefix { OnErr result (GrewByPrefix (K.written out.old) (K.written out.new) (line_of exit)) }
+    ensures prefix { OnErr result (GrewByProperPrefix (K.written out.old) (K.written out.new) (line_of exit)) }
     ensures fault { OnErr result (Rose (K.faults out.old) (K.faults out.new)) }
     ensures others { OnOk result (K.faults out.new ≡ K.faults out.old) }
 {

@@ -1,11 +1,13 @@
-use crate::{Exit, Refusal, Rule, UseFault, paclab};
+use crate::{Exit, Refusal, Rule, UseFault, command, paclab};
 use pa_io::{
-    Calls, MemFile, MemFiles, MemShelf, MemSink, MemSource, SureShelf, SureSink, SureSource,
+    Calls, DiskShelf, MemFile, MemFiles, MemShelf, MemSink, MemSource, SureShelf, SureSink,
+    SureSource,
 };
 use pa_num::{Bytes, Name};
 use pa_pac::FoldPac;
 use std::alloc::{AllocError, Global};
 use std::test::Fail;
+use std::{fs, io};
 
 const HELLO: &[u8] = b"#include <stdio.h>
 int main(void){
@@ -178,6 +180,51 @@ fn a_sink_that_fails_leaves_a_prefix(rt: HostRuntime) -> Result<(), Fail> {
         }
     }
     Ok(())
+}
+
+/// The front of the report under the host's PAC function, as another program works it out (tools/siphash.py).
+const HOST_REPORT: &[u8] = b"output 2
+Hi
+end exit 7
+signs 4 takes 5 lands 5 unsigned 0
+load sign ia 0000000100004000 0000000180000400 1924000180000400
+1 sign ib 0000000170000000 0000000100000404 8a23000100000404
+";
+
+#[test]
+fn the_disk_gives_the_same(rt: HostRuntime) -> Result<(), Fail> {
+    let alloc = rt.alloc();
+    fs::write(&rt, "hello.c", HELLO)?;
+    let cases: [(&[&str], u8, &[u8]); 3] = [
+        (&["run", "hello.c"], 0, HOST_REPORT),
+        (&["run", "absent.c"], 4, b"read fault 1\n"),
+        (&["run"], 2, b"usage U1\n"),
+    ];
+    for (texts, status, text) in cases {
+        let mut shelf = DiskShelf::new(rt);
+        let mut input = SureSource::new(Bytes::new(alloc));
+        let mut out = sink(alloc, 0)?;
+        let words = Ok(words(alloc, texts)?);
+        let answer = command(alloc, &words, &mut shelf, &mut input, &mut out);
+        assert_eq!(rt; answer, status);
+        assert!(rt; out.written.as_slice().starts_with(text));
+    }
+    fs::remove_file(&rt, "hello.c")?;
+    Ok(())
+}
+
+#[test]
+fn no_words_are_told(rt: HostRuntime) {
+    let alloc = rt.alloc();
+    for (kind, status) in [(io::ErrorKind::OutOfMemory, 7), (io::ErrorKind::Other, 8)] {
+        let mut shelf = SureShelf::new(MemFiles::new(alloc));
+        let mut input = SureSource::new(Bytes::new(alloc));
+        let mut out = SureSink::new(Bytes::new(alloc), false);
+        let words = Err(io::Error::from(kind));
+        let answer = command(alloc, &words, &mut shelf, &mut input, &mut out);
+        assert_eq!(rt; answer, status);
+        assert!(rt; out.written.is_empty());
+    }
 }
 
 #[test]

@@ -1,9 +1,7 @@
-ghost use Rattle.std.specs.Prelude.{◌≡◌, ◌≢◌, ◌≤◌, ◌<◌, ◌⊎◌, length, map, false, string_bytes, vec_len, Option, Some, None, IfOk, IfErr, IsSomeAnd};
-ghost use Rattle.pa_io.specs.Outside.{IsFile, Rose, Grew, GrewByPrefix};
-ghost use Rattle.pa_straight.specs.Source.{IsNoText};
+ghost use Rattle.std.specs.Prelude.{◌≡◌, ◌≢◌, ◌≤◌, ◌<◌, ◌⊎◌, length, map, false, string_bytes, vec_len, Option, Some, None, IfOk, IfErr, MatchResult, IsSomeAnd};
+ghost use Rattle.pa_io.specs.Outside.{Rose};
 ghost use Rattle.pa_engine.specs.Report.{report_text};
-ghost use Rattle.pa_paclab.specs.Answers.{most_bytes, refusal_by, IsRefused, Accepts, IsAccepted, SomeText, KnownText, Cause, IsUnlessMemory, run_of, report_of, IsReport, Prints, OnDone, OnWriteFault, UnlessReadFault, OnStop, IsStop, IsRefusalOf, IsRunOf};
-ghost use Rattle.pa_paclab.specs.Lines.{line_of};
+ghost use Rattle.pa_paclab.specs.Answers.{most_bytes, IsRefused, Accepts, IsAccepted, KnownText, Reading, Call, WasRead, ReadText, NoReadFault, Cause, IsAnswer, IsUnlessMemory, IsReport, UnlessReadFault, IsStop, IsRefusalOf};
 ghost use Rattle.pa_paclab.specs.Words.{file_to_run};
 
 use crate::exit::{Exit, Refusal, Rule, UseFault};
@@ -22,18 +20,19 @@ pub const MOST_BYTES: u64 = 1_048_576;
 
 /// The bytes of the first file.
 fn read_text<H: Shelf>(alloc: Global, name: &str, shelf: &mut H) -> Result<Vec<u8>, Exit>
-    ensures text { IfOk result (λ text. IsFile (H.told shelf.old name.now) text.items) }
-    ensures short { IfOk result (λ text. vec_len text ≤ most_bytes) }
-    ensures cause { IfErr result (Cause (Some name.now) record {
+    ensures reading { let reading : Reading = record {
       told = H.told shelf.old;
+      given_before = H.given shelf.old;
+      given_now = H.given shelf.new;
       faults_before = H.faults shelf.old;
       faults_now = H.faults shelf.new;
+      failed_before = H.failed shelf.old;
       failed_now = H.failed shelf.new;
-    }) }
-    ensures stop { IfErr result IsStop }
+    } in
+        MatchResult result (λ text. WasRead reading name.now text.items × NoReadFault reading)
+        (λ exit. IsStop exit × Cause (Some name.now) reading exit × UnlessReadFault exit (NoReadFault reading)) }
+    ensures short { IfOk result (λ text. vec_len text ≤ most_bytes) }
     ensures tells { H.told shelf.new ≡ H.told shelf.old }
-    ensures ok { IfOk result (λ _. (H.faults shelf.new ≡ H.faults shelf.old) × (H.failed shelf.new ≡ H.failed shelf.old)) }
-    ensures err { IfErr result (λ exit. UnlessReadFault exit ((H.faults shelf.new ≡ H.faults shelf.old) × (H.failed shelf.new ≡ H.failed shelf.old))) }
 {
     match shelf.read(alloc, name, MOST_BYTES) {
         Ok(text) => Ok(text),
@@ -71,19 +70,21 @@ fn answer<H: Shelf, P: Pac>(
     shelf: &mut H,
     host: &P,
 ) -> Result<Ran, Exit>
-    ensures ran { IfOk result (λ ran. IsSomeAnd (file_to_run (map string_bytes words.now)) (λ name.
-        SomeText (H.told shelf.old name) (λ text. IsReport (P.code host.now) text (report_text ran.output ran.end ran.log.entries false)))) }
-    ensures cause { IfErr result (Cause (file_to_run (map string_bytes words.now)) record {
+    ensures reading { let reading : Reading = record {
       told = H.told shelf.old;
+      given_before = H.given shelf.old;
+      given_now = H.given shelf.new;
       faults_before = H.faults shelf.old;
       faults_now = H.faults shelf.new;
+      failed_before = H.failed shelf.old;
       failed_now = H.failed shelf.new;
-    }) }
+    } in
+        MatchResult result (λ ran. NoReadFault reading × IsSomeAnd (file_to_run (map string_bytes words.now)) (λ name.
+        ReadText reading name (λ text. IsReport (P.code host.now) text (report_text ran.output ran.end ran.log.entries false))))
+        (λ exit. IsStop exit × Cause (file_to_run (map string_bytes words.now)) reading exit
+        × UnlessReadFault exit (NoReadFault reading)) }
     ensures usage { file_to_run (map string_bytes words.now) ≡ None → (result ≡ Err (Exit.Usage UseFault.U1)) × (shelf.new ≡ shelf.old) }
-    ensures stop { IfErr result IsStop }
     ensures tells { H.told shelf.new ≡ H.told shelf.old }
-    ensures ok { IfOk result (λ _. (H.faults shelf.new ≡ H.faults shelf.old) × (H.failed shelf.new ≡ H.failed shelf.old)) }
-    ensures err { IfErr result (λ exit. UnlessReadFault exit ((H.faults shelf.new ≡ H.faults shelf.old) × (H.failed shelf.new ≡ H.failed shelf.old))) }
 {
     let name = file_to_run(words)?;
     let text = read_text(alloc, name, shelf)?;
@@ -92,9 +93,9 @@ fn answer<H: Shelf, P: Pac>(
     Ok(ran)
 }
 
-/// Does what the words ask for, with the files of a shelf, the bytes of a source and the host's function for the
-/// authentication code, and writes what is printed: the whole report where the answer is `Done`, a prefix of it where it is
-/// `WriteFault`, and otherwise one line that tells the answer, or a prefix of that line where the sink fails. `run FILE` compiles
+/// Does what the words ask for, with the files of a shelf, the bytes of a source and the host's PAC
+/// function, and writes what is printed: the whole report where the answer is `Done`, a proper prefix of it where it is
+/// `WriteFault`, and otherwise one line that tells the answer, or a proper prefix of that line where the sink fails. `run FILE` compiles
 /// the file to an image, loads it, runs it for at most a million instructions, and prints the report.
 pub fn paclab<H: Shelf, S: Source, K: Sink, P: Pac>(
     alloc: Global,
@@ -104,13 +105,26 @@ pub fn paclab<H: Shelf, S: Source, K: Sink, P: Pac>(
     out: &mut K,
     host: &P,
 ) -> Exit
-    // Each answer has its cause, and each cause has its answer, unless memory is wanting.
-    ensures cause { Cause (file_to_run (map string_bytes words.now)) record {
-      told = H.told shelf.old;
-      faults_before = H.faults shelf.old;
-      faults_now = H.faults shelf.new;
-      failed_now = H.failed shelf.new;
+    // Each answer has its cause, and with each the report or a line is written, or a proper prefix of that.
+    ensures answer { IsAnswer record {
+      file = file_to_run (map string_bytes words.now);
+      code = P.code host.now;
+      reading = record {
+        told = H.told shelf.old;
+        given_before = H.given shelf.old;
+        given_now = H.given shelf.new;
+        faults_before = H.faults shelf.old;
+        faults_now = H.faults shelf.new;
+        failed_before = H.failed shelf.old;
+        failed_now = H.failed shelf.new;
+      };
+      written_before = K.written out.old;
+      written_now = K.written out.new;
+      write_faults_before = K.faults out.old;
+      write_faults_now = K.faults out.new;
     } result }
+
+    // Each cause has its answer, but for out of memory.
     ensures usage { file_to_run (map string_bytes words.now) ≡ None → (result ≡ Exit.Usage UseFault.U1) × (shelf.new ≡ shelf.old) }
     ensures refused { (refusal : Refusal) → IsSomeAnd (file_to_run (map string_bytes words.now)) (λ name.
         KnownText (H.told shelf.old name) (IsRefused refusal)) → ¬ Rose (H.faults shelf.old) (H.faults shelf.new)
@@ -119,22 +133,9 @@ pub fn paclab<H: Shelf, S: Source, K: Sink, P: Pac>(
         KnownText (H.told shelf.old name) IsAccepted) → ¬ Rose (H.faults shelf.old) (H.faults shelf.new)
         → ¬ Rose (K.faults out.old) (K.faults out.new) → IsUnlessMemory result Exit.Done }
 
-    // What is written: the report, or a prefix of it, or a line.
-    ensures done { OnDone result (IsSomeAnd (file_to_run (map string_bytes words.now)) (λ name.
-        Prints (H.told shelf.old name) (P.code host.now) (Grew (K.written out.old) (K.written out.new)))) }
-    ensures cut { OnWriteFault result (IsSomeAnd (file_to_run (map string_bytes words.now)) (λ name.
-        Prints (H.told shelf.old name) (P.code host.now) (GrewByPrefix (K.written out.old) (K.written out.new)))) }
-    ensures write_fault { OnWriteFault result (Rose (K.faults out.old) (K.faults out.new)) }
-    ensures no_fault { OnDone result (K.faults out.new ≡ K.faults out.old) }
-    ensures line { OnStop result (¬ Rose (K.faults out.old) (K.faults out.new)
-        → Grew (K.written out.old) (K.written out.new) (line_of result)) }
-    ensures part { OnStop result (GrewByPrefix (K.written out.old) (K.written out.new) (line_of result)) }
-
-    // What stays: the source, what the shelf tells, and its count and failed name where no reading failed.
+    // What stays: the source, and what the shelf tells.
     ensures source { input.new ≡ input.old }
     ensures tells { H.told shelf.new ≡ H.told shelf.old }
-    ensures others { UnlessReadFault result ((H.faults shelf.new ≡ H.faults shelf.old) × (H.failed shelf.new ≡ H.failed shelf.old)) }
-    ensures kept { K.faults out.old ≤ K.faults out.new }
 {
     let _ = input;
     match answer(alloc, words, shelf, host) {

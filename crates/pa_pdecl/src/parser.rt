@@ -1,7 +1,7 @@
 //! Whole files.
 
 ghost use Rattle.std.specs.Prelude.{◌≡◌};
-ghost use Rattle.pa_pdecl.specs.Answers as spec;
+ghost use Rattle.pa_tree.specs.Cursors as cursors;
 ghost use Rattle.pa_pdecl.specs.Parsed.{IsParsed};
 
 use crate::file::file_items;
@@ -16,7 +16,7 @@ const MOST_LEVELS: u32 = 200;
 
 /// Where the next token begins, or the last one ends where none is left.
 fn place(r: &Reader<'_>) -> u32
-    ensures { result ≡ spec.place r.now }
+    ensures { result ≡ cursors.place r.now }
 {
     match r.peek() {
         Some(t) => t.from,
@@ -37,7 +37,7 @@ pub fn parse(alloc: Global, tokens: &[Token]) -> Result<File, Fault<SynRule>>
     ensures { IsParsed tokens.now result }
 {
     let mut r = Reader::new(tokens);
-    match file_items(alloc, tokens, &mut r, MOST_LEVELS) {
+    match file_items(alloc, &mut r, MOST_LEVELS) {
         Ok(items) => Ok(File { items }),
         Err(ParseError::Memory) => Err(Fault::Memory),
         Err(ParseError::Broken(rule)) => Err(Fault::Refused {

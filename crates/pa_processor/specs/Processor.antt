@@ -1,7 +1,9 @@
 -- What the code holds of the machine.
-use Rattle.std.specs.Prelude.{◌≡◌, ℕ, Result, Ok, Err, Option, Some, None}
+use Rattle.std.specs.Prelude.{◌≡◌, ℕ, List, Result, Ok, Err, Option, Some, None, option_and_then}
 use Rattle.pa_pac.specs.Signing.{Code}
 use Rattle.pa_a64.specs.declared.instr.Instr.{Instr}
+use Rattle.pa_a64.specs.Decoding.{decoded}
+use Rattle.pa_mem.specs.Memory.{Region, fetch}
 use Rattle.pa_object.specs.declared.end.Trap.{Trap}
 use Rattle.pa_object.specs.Machine.{Machine}
 use Rattle.pa_object.specs.Traps.{trap_of}
@@ -28,7 +30,10 @@ Does code instr old new = (trap_of code instr old.machine ≡ None) × (new ≡ 
 abbrev pub DoesOrTraps : Code → Instr → Processor → Result (Unit {0}) Trap → Processor → Type 0
 DoesOrTraps code instr old result new = Carried (trap_of code instr old.machine) (effect code instr old.machine) old result new
 
--- a step was made but for the end by a trap
-abbrev pub StepsOrTraps : Code → Processor → Result (Unit {0}) Trap → Processor → Type 0
-StepsOrTraps code old (Ok _) new = new ≡ record old { machine = step code old.machine }
-StepsOrTraps code old (Err trap) new = (new ≡ old) × (step code old.machine ≡ ends (end.Trap trap) old.machine)
+-- the instruction that stands at an address
+abbrev pub instruction_at : List Region → ℕ → Option Instr
+instruction_at memory at = option_and_then decoded (fetch memory at)
+
+-- a step does nothing but end the run by this trap
+abbrev pub Traps : Trap → Machine → Type 0
+Traps trap m = (code : Code) → step code m ≡ ends (end.Trap trap) m

@@ -1,9 +1,9 @@
 //! From an instruction to what it does.
 
-ghost use Rattle.std.specs.Prelude.{◌≡◌, ◌+◌, ◌^◌, ◌<◌, ◌≤◌, length};
+ghost use Rattle.std.specs.Prelude.{◌≡◌, ◌+◌, ◌^◌, ◌<◌, ◌≤◌, length, IfOk, IfErr, Some};
 ghost use Rattle.pa_a64.specs.Decoding.{InRange};
 ghost use Rattle.pa_object.specs.Run.{step};
-ghost use Rattle.pa_processor.specs.Processor.{DoesOrTraps, StepsOrTraps};
+ghost use Rattle.pa_processor.specs.Processor.{DoesOrTraps, Traps, instruction_at};
 
 use crate::processor::Processor;
 use pa_a64::{Instr, decode};
@@ -11,6 +11,30 @@ use pa_object::Trap;
 use pa_pac::Pac;
 
 impl Processor {
+    /// The instruction at the place of the next one, or why there is none.
+    pub fn instruction(&self) -> Result<Instr, Trap>
+        ensures instr { IfOk result (λ instr. instruction_at self.now.machine.memory self.now.machine.pc ≡ Some instr) }
+        ensures trap { IfErr result (λ trap. Traps trap self.now.machine) }
+    {
+        match decode(self.fetch()?) {
+            Some(instr) => Ok(instr),
+            None => Err(Trap::BadWord),
+        }
+    }
+
+    /// One instruction, which is the one at the place.
+    pub fn step_by<P: Pac>(&mut self, p: &P, instr: Instr)
+        requires instr { instruction_at self.old.machine.memory self.old.machine.pc ≡ Some instr }
+        requires count { self.old.machine.count + 1 < 2 ^ 32 }
+        requires log { length self.old.machine.log + 2 ≤ self.old.log_limit }
+        requires output { length self.old.machine.output + 1 ≤ self.old.output_limit }
+        ensures { self.new ≡ record self.old { machine = step (P.code p.now) self.old.machine } }
+    {
+        if let Err(trap) = self.execute(p, instr) {
+            self.ends(trap);
+        }
+    }
+
     /// One instruction: fetched, found in the table, and carried out.
     pub fn step<P: Pac>(&mut self, p: &P)
         requires count { self.old.machine.count + 1 < 2 ^ 32 }
@@ -18,22 +42,9 @@ impl Processor {
         requires output { length self.old.machine.output + 1 ≤ self.old.output_limit }
         ensures { self.new ≡ record self.old { machine = step (P.code p.now) self.old.machine } }
     {
-        if let Err(trap) = self.carries_out(p) {
-            self.ends(trap);
-        }
-    }
-
-    #[tactic(auto, unfolding(pa_object::specs::Run::step))]
-    fn carries_out<P: Pac>(&mut self, p: &P) -> Result<(), Trap>
-        requires count { self.old.machine.count + 1 < 2 ^ 32 }
-        requires log { length self.old.machine.log + 2 ≤ self.old.log_limit }
-        requires output { length self.old.machine.output + 1 ≤ self.old.output_limit }
-        ensures { StepsOrTraps (P.code p.now) self.old result self.new }
-    {
-        let word = self.fetch()?;
-        match decode(word) {
-            Some(instr) => self.execute(p, instr),
-            None => Err(Trap::BadWord),
+        match self.instruction() {
+            Ok(instr) => self.step_by(p, instr),
+            Err(trap) => self.ends(trap),
         }
     }
 

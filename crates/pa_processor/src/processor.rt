@@ -90,6 +90,13 @@ impl Processor {
         }
     }
 
+    /// Puts these numbers into the registers x0 to x30.
+    pub fn set_registers(&mut self, registers: [u64; 31])
+        ensures { self.new ≡ record self.old { machine = record self.old.machine { registers = registers } } }
+    {
+        self.registers = registers;
+    }
+
     /// Makes room for what so many steps print and log: two entries and a byte each.
     pub fn reserve(&mut self, steps: u32) -> Result<(), Memory>
         ensures machine { self.new.machine ≡ self.old.machine }
@@ -102,6 +109,20 @@ impl Processor {
         self.output.reserve(steps as usize)?;
         self.output_limit = self.output.capacity();
         Ok(())
+    }
+
+    /// The registers x0 to x30.
+    pub fn registers(&self) -> &[u64; 31]
+        ensures { result.now ≡ self.now.machine.registers }
+    {
+        &self.registers
+    }
+
+    /// The memory of the guest.
+    pub fn space(&self) -> &Space
+        ensures { result.now ≡ self.now.machine.memory }
+    {
+        &self.space
     }
 
     /// How many instructions ran.
@@ -171,19 +192,22 @@ impl Processor {
         }
     }
 
-    pub(crate) fn sp(&self) -> u64
+    /// The stack pointer.
+    pub fn sp(&self) -> u64
         ensures { result ≡ self.now.machine.sp }
     {
         self.sp
     }
 
-    pub(crate) fn pc(&self) -> u64
+    /// The place of the next instruction.
+    pub fn pc(&self) -> u64
         ensures { result ≡ self.now.machine.pc }
     {
         self.pc
     }
 
-    pub(crate) fn flags(&self) -> Flags
+    /// The condition flags.
+    pub fn flags(&self) -> Flags
         ensures { result ≡ self.now.machine.flags }
     {
         self.flags
@@ -335,7 +359,7 @@ impl Processor {
     }
 
     /// The run has ended by this trap, which changes nothing else.
-    pub(crate) fn ends(&mut self, trap: Trap)
+    pub fn ends(&mut self, trap: Trap)
         ensures { self.new ≡ record self.old { machine = ends (end.Trap trap) self.old.machine } }
     {
         self.ended = Some(End::Trap(trap));

@@ -96,8 +96,8 @@ next_goes : (level : ℕ) (x : Infix) (left : ExprTree) (c m : Cursor) (k : Mark
 unfolding next
 next_goes level x left c m k l r = look_is (next_at level left) c m k _ (rw (sign_of_infix x, le-leb level (infix_level x) l, le-leb (infix_left x) (tree_level left) r) refl)
 
-module _ (names : List (List ℕ)) where
-  pub name_is : (name : List ℕ) (a z : ℕ) (c d : Cursor) → NameSpells names name a z c d → plain_name names c ≡ Ok (record { name = name; from = a; to = z }, d)
+module _ (names : List ℕ) where
+  pub name_is : (name : ℕ) (a z : ℕ) (c d : Cursor) → NameSpells names name a z c d → plain_name names c ≡ Ok (record { name = name; from = a; to = z }, d)
   unfolding plain_name
   name_is name a z c d (q, k) = look_at_is (name_at names) c d k (Ok (record { name = name; from = a; to = z }, d)) (if_false (is_type names name) _ _ c (Ok (record { name = name; from = a; to = z }, d)) q (taken k (pure (record { name = name; from = a; to = z })) (Ok (record { name = name; from = a; to = z }, d)) refl))
 
@@ -140,7 +140,7 @@ module _ (names : List (List ℕ)) where
     call_gone of xs a z s m n e h k l lies = bind_is (look (reading.arguments_at names d below)) (λ u. mark p.RightParenthesis >> ended >>= (λ w. pure (Call of (exprs_of u) (begin s) w))) m n (exprs_list xs) (Ok (Call of xs a z, e)) (arguments_is xs m n e h l k)
         (rw (exprs_back xs) (marked p.RightParenthesis (ended >>= (λ w. pure (Call of xs (begin s) w))) n e (Ok (Call of xs a z, e)) k (close (Call of xs) (begin s) a z e (sym lies.from_is) lies.to_is)))
 
-    name_gone : (f : ExprTree → List ℕ → ℕ → ℕ → ExprTree) (of : ExprTree) (name : List ℕ) (a z : ℕ) (s m e : Cursor) → PlainName names name m e → Lies a z s e → (plain_name names >>= (λ n. ended >>= (λ y. pure (f of n.name (begin s) y)))) m ≡ Ok (f of name a z, e)
+    name_gone : (f : ExprTree → ℕ → ℕ → ℕ → ExprTree) (of : ExprTree) (name : ℕ) (a z : ℕ) (s m e : Cursor) → PlainName names name m e → Lies a z s e → (plain_name names >>= (λ n. ended >>= (λ y. pure (f of n.name (begin s) y)))) m ≡ Ok (f of name a z, e)
     name_gone f of name a z s m e (q, k) lies = bind_is (plain_name names) (λ n. ended >>= (λ y. pure (f of n.name (begin s) y))) m e (record { name = name; from = k.from; to = k.to }) (Ok (f of name a z, e)) (name_is name k.from k.to m e (q, k.takes)) (close (f of name) (begin s) a z e (sym lies.from_is) lies.to_is)
 
     -- What the loop comes to, from an outcome on.

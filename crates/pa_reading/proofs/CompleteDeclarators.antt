@@ -104,7 +104,7 @@ abstract_ends : (h : Option Token) → ends_abstract h ≡ true → (ends_specs 
 abstract_ends None e = cc
 abstract_ends (Some t) e = abstract_kind t.kind e
 
-module _ (names : List (List ℕ)) where
+module _ (names : List ℕ) where
   -- what a declarator with a leaf begins with is no type and no closing parenthesis
   begins_plain : (x : DeclaratorTree) (l : ℕ) (c e : Cursor) → DeclaratorSpells names l x c e → is_absent x ≡ false → (begins_type names (head c.ahead) || sees p.RightParenthesis (head c.ahead)) ≡ false
   begins_plain (Named name a z) l c e h q = rw (h.1).ahead (or_false (is_type names name) false h.0 refl)
@@ -276,7 +276,7 @@ module _ (names : List (List ℕ)) where
     begin_is : {k : Kind} {a z : ℕ} {c m : Cursor} → Takes k a z c m → a ≡ begin c
     begin_is h = sym (ap (λ x. from_of (head x)) h.ahead)
 
-    first_named : (name : Naming) (n : List ℕ) (a z : ℕ) (s e : Cursor) → Fits name true → NameSpells names n a z s e → Comes (reading.declarator_level names d below name s) s (Named n a z) e
+    first_named : (name : Naming) (n : ℕ) (a z : ℕ) (s e : Cursor) → Fits name true → NameSpells names n a z s e → Comes (reading.declarator_level names d below name s) s (Named n a z) e
     first_named name n a z s e f (q, k) = record {
       n = suc d;
       room = omega arith;

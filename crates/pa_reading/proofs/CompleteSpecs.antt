@@ -160,7 +160,7 @@ words_is first (x ∷ xs) all c e (m, k, h) l q = one_turn word_step word-shrink
     ∙ ap (λ y. and_then y (goes (iterate word_step))) (word_more first all x c m k (lawful_prefix no_words ((first ∷ all) ++ x ∷ []) xs (ap (goes_with no_words) (append_assoc (first ∷ all) (x ∷ []) xs) ∙ l)))
     ∙ words_is first xs (all ++ x ∷ []) m e h (ap (goes_with no_words) (append_assoc (first ∷ all) (x ∷ []) xs) ∙ l) q ∙ ap (λ y. Ok (y, e)) (append_assoc (first ∷ all) (x ∷ []) xs)
 
-module _ (names : List (List ℕ)) where
+module _ (names : List ℕ) where
   pub base_no_qualifier : (bodies : Bool) (x : BaseTree) (c e : Cursor) → BaseSpells names bodies x c e → begins_qualifier (head c.ahead) ≡ false
   base_no_qualifier bodies (Void a z) c e h = rw h.ahead refl
   base_no_qualifier bodies (Boolean a z) c e h = rw h.ahead refl

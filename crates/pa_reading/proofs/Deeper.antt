@@ -23,7 +23,7 @@ use Rattle.pa_tree.specs.Exprs.{Absent, Named, StructTag, EnumTag, ExprTree, Dec
 use Rattle.pa_tree.specs.Heights.{expr_height, declarator_height}
 use Rattle.pa_reading.specs.Tokens.{is_mark, is_word, same_mark, same_word}
 use Rattle.pa_reading.specs.Infixes.{Infix, Between, Choice, Indexed, Called, Dotted, Arrowed, Stepped}
-use Rattle.pa_reading.specs.Parser.{Parser, Outcome, Stop, and_then, ◌>>=◌, ◌>>◌, pure, refuse, look, after, ended, needs, mark, sees, Next, Done, More, goes, loop, iterate, item_at, item_step, many, commas}
+use Rattle.pa_reading.specs.Parser.{Parser, Outcome, Stop, and_then, ◌>>=◌, ◌>>◌, pure, refuse, look, after, ended, needs, mark, sees, Next, Done, More, goes, loop, iterate, item_at, many, commas}
 use Rattle.pa_reading.specs.Reading as reading
 use Rattle.pa_reading.specs.Reading.{Parsers, is_some, begins_qualifier, not_brace, type_name, conds, gone, turn, last, climb, operand, operand_by, operand_at, expr_level, opened_level, no_room, no_expr, plain_name, begins_expr_by, qualifier, qualifiers, member, enumerator, enumerator_step, base, base_by, base_word, words_at, base_at, specs_level, tagged_at, struct_at, parameter, suffix, suffixes, suffixed, declarator_level, bare_declarator, no_parsers, parsers}
 
@@ -121,7 +121,7 @@ pub record AreDeeper (b d : Parsers) : Type 0 where
   pub specs : (bodies : Bool) → Deeper (b.specs bodies) (d.specs bodies)
   pub declarator : (name : Naming) → Deeper (b.declarator name) (d.declarator name)
 
-module _ (names : List (List ℕ)) where
+module _ (names : List ℕ) where
   deeper_plain : Deeper (plain_name names) (plain_name names)
   deeper_plain = deeper_same
 

@@ -1,18 +1,17 @@
 -- The readers of the three forms, in what a reader has to give.
-use Rattle.std.proofs.Common.{◌≡◌, ◌≤◌, ℕ, List, [], Ok, Bool, true, false, refl, sym, ◌∙◌, ap, arith}
+use Rattle.std.proofs.Common.{◌≡◌, ◌≤◌, ℕ, List, [], Bool, true, false, refl, sym, ◌∙◌, ap, arith}
 use Rattle.pa_reading.specs.declared.rule.Level.{Level}
 use Rattle.pa_reading.specs.declared.rule.Level.TheVariants as l
 use Rattle.pa_reading.specs.declared.rule.Naming.{Naming}
-use Rattle.pa_reading.specs.declared.rule.Naming.TheVariants as naming
 use Rattle.pa_tree.specs.Cursors.{Cursor}
 use Rattle.pa_tree.specs.Exprs.{ExprTree, DeclaratorTree}
 use Rattle.pa_tree.specs.Heights.{expr_height, specs_height, declarator_height}
-use Rattle.pa_tree.specs.Spells.{ExprSpells, SpecsSpell, DeclaratorSpells, has_name}
+use Rattle.pa_tree.specs.Spells.{ExprSpells, SpecsSpell, has_name}
 use Rattle.pa_reading.specs.Answers.{level_number, naming_of, DeclaratorOf}
 use Rattle.pa_reading.specs.Parser.{Outcome}
 use Rattle.pa_reading.specs.Reading.{parsers}
 use Rattle.pa_reading.proofs.LocalReading.{parsers-local}
-use Rattle.pa_reading.proofs.Meets.{Meets, meets_weaken}
+use Rattle.pa_reading.proofs.Meets.{meets_weaken}
 use Rattle.pa_reading.proofs.Sound.{Fits}
 use Rattle.pa_reading.proofs.SoundSpecs.{sound}
 use Rattle.pa_reading.proofs.CompleteDeclarators.{complete}
@@ -33,7 +32,7 @@ named_of : (named : Bool) (b : Bool) → Fits (naming_of named) b → b ≡ name
 named_of true b e = e
 named_of false b e = e
 
-module _ (names : List (List ℕ)) (d : ℕ) where
+module _ (names : List ℕ) (d : ℕ) where
   pub at_level : {o : Outcome ExprTree} (c : Cursor) (m n : ℕ) → m ≡ n → (parsers names d).expr m c ≡ o → (parsers names d).expr n c ≡ o
   at_level c m n e h = ap (λ k. (parsers names d).expr k c) (sym e) ∙ h
 
@@ -65,7 +64,7 @@ module _ (names : List (List ℕ)) (d : ℕ) where
   }
 
 -- the same for each depth
-module _ (names : List (List ℕ)) where
+module _ (names : List ℕ) where
   pub expr_readers : (level : ℕ) → level ≤ 14 → Readers (ExprSpells names level) expr_height (λ d. (parsers names d).expr level)
   expr_readers level h = record {
     of = λ d. expr_reader names d level h;

@@ -1,5 +1,5 @@
 -- A tree spells the same tokens where more tokens stand behind them.
-use Rattle.std.proofs.Common.{◌≡◌, ℕ, suc, List, [], ◌∷◌, ◌++◌, Option, Some, None, Bool, true, false, refl, ap, sym, ◌∙◌, subst, inl, inr}
+use Rattle.std.proofs.Common.{◌≡◌, ℕ, suc, List, [], ◌∷◌, ◌++◌, Option, Some, None, Bool, true, false, ap, sym, ◌∙◌, subst, inl, inr}
 use Rattle.pa_lex.specs.declared.token.Kind.{Kind}
 use Rattle.pa_lex.specs.declared.token.Token.{Token}
 use Rattle.pa_tree.specs.declared.expr.Tag.{Tag}
@@ -7,7 +7,7 @@ use Rattle.pa_tree.specs.declared.operator.IntegerWord.{IntegerWord}
 use Rattle.pa_tree.specs.Cursors.{Cursor, head, from_of, Takes, Shifts, Lies, Nothing}
 use Rattle.pa_tree.specs.Operators.{cond_level, cast_level, unary_level, postfix_level, left_level, right_level, prefix_level, are_integer_type}
 use Rattle.pa_tree.specs.Exprs.{ExprTree, Identifier, Integer, Character, Text, Paren, Index, Call, Dot, Arrow, Postfix, Prefix, SizeofExpr, SizeofType, Cast, Binary, Conditional, TypeNameTree, OfTypeName, SpecsTree, OfSpecs, QualifierTree, Const, Ptrauth, BaseTree, Void, Boolean, Words, TypedefName, StructTag, StructBody, EnumTag, EnumBody, MemberTree, OfMember, EnumeratorTree, OfEnumerator, DeclaratorTree, Named, Absent, Pointer, Grouped, Array, Function, ParametersTree, Empty, OnlyVoid, Listed, ParameterTree, OfParameter, ExprTrees, NoExprs, ConsExpr, QualifierTrees, NoQualifiers, ConsQualifier, MemberTrees, NoMembers, ConsMember, EnumeratorTrees, NoEnumerators, ConsEnumerator, DeclaratorTrees, NoDeclarators, ConsDeclarator, ParameterTrees, NoParameters, ConsParameter, MaybeExprTree, NoExpr, SomeExpr}
-use Rattle.pa_tree.specs.Spells.{TextsSpell, WordsSpell, LastComma, NameSpells, PlainName, TagSpells, MaybeTagSpells, ExprSpells, CommaExprs, ArgumentsSpell, TypeNameSpells, SpecsSpell, QualifierSpells, PtrauthArguments, QualifiersSpell, BaseSpells, MemberSpells, MembersSpell, EnumeratorSpells, EnumeratorValue, CommaEnumerators, EnumeratorsSpell, DeclaratorSpells, LengthSpells, CommaDeclarators, DeclaratorsSpell, ParametersSpell, ParameterSpells, CommaParameters, ParameterListSpells}
+use Rattle.pa_tree.specs.Spells.{TextsSpell, WordsSpell, LastComma, NameSpells, PlainName, MaybeTagSpells, ExprSpells, CommaExprs, ArgumentsSpell, TypeNameSpells, SpecsSpell, QualifierSpells, PtrauthArguments, QualifiersSpell, BaseSpells, MemberSpells, MembersSpell, EnumeratorSpells, EnumeratorValue, CommaEnumerators, EnumeratorsSpell, DeclaratorSpells, LengthSpells, CommaDeclarators, DeclaratorsSpell, ParametersSpell, ParameterSpells, CommaParameters, ParameterListSpells}
 
 -- a place with these tokens behind all that are ahead
 abbrev pub on : List Token → Cursor → Cursor
@@ -48,11 +48,11 @@ module _ (x : List Token) where
   on_comma c d (inl e) = inl (ap (on x) e)
   on_comma c d (inr h) = inr (on_shifts h)
 
-  module _ (names : List (List ℕ)) where
-    on_name : {n : List ℕ} {a z : ℕ} {c d : Cursor} → NameSpells names n a z c d → NameSpells names n a z (on x c) (on x d)
+  module _ (names : List ℕ) where
+    on_name : {n : ℕ} {a z : ℕ} {c d : Cursor} → NameSpells names n a z c d → NameSpells names n a z (on x c) (on x d)
     on_name (q, h) = (q, on_takes h)
 
-    on_plain : {n : List ℕ} {c d : Cursor} → PlainName names n c d → PlainName names n (on x c) (on x d)
+    on_plain : {n : ℕ} {c d : Cursor} → PlainName names n c d → PlainName names n (on x c) (on x d)
     on_plain (q, h) = (q, on_shifts h)
 
     on_maybe_tag : (tag : Option Tag) (c d : Cursor) → MaybeTagSpells names tag c d → MaybeTagSpells names tag (on x c) (on x d)

@@ -55,7 +55,7 @@ not_twice : (b : Bool) → not b ≡ true → b ≡ false
 not_twice true e = cc
 not_twice false e = refl
 
-module _ (names : List (List ℕ)) where
+module _ (names : List ℕ) where
   abbrev pub begins_expr : Option Token → Bool
   begins_expr None = false
   begins_expr (Some t) = begins_expr_by names t.kind

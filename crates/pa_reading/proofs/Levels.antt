@@ -38,7 +38,7 @@ height_pos (Cast wanted of a z) = omega arith
 height_pos (Binary op left right a z) = omega arith
 height_pos (Conditional test when_true when_false a z) = omega arith
 
-module _ (names : List (List ℕ)) where
+module _ (names : List ℕ) where
   -- a tree is spelled at each nonterminal that is no tighter than its own
   pub at_level : (t : ExprTree) (l m : ℕ) (c d : Cursor) → ExprSpells names l t c d → m ≤ tree_level t → ExprSpells names m t c d
   at_level (Identifier name a z) l m c d h k = h

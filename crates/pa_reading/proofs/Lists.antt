@@ -7,7 +7,7 @@ use Rattle.pa_tree.specs.Spells.{has_name, ExprSpells, CommaExprs, QualifierSpel
 use Rattle.pa_tree.specs.Views.{exprs_of, qualifiers_of, members_of, enumerators_of, declarators_of, parameters_of}
 use Rattle.pa_reading.proofs.Chains.{Chain, Behind}
 
-module _ (names : List (List ℕ)) where
+module _ (names : List ℕ) where
   -- what stands there is spelled, and no deeper than n
   abbrev pub IsExpr : ℕ → ℕ → ExprTree → Cursor → Cursor → Type 0
   IsExpr n level e c d = ExprSpells names level e c d × (expr_height e ≤ n)

@@ -57,7 +57,7 @@ parameters_back NoParameters = refl
 parameters_back (ConsParameter x xs) = ap (ConsParameter x) (parameters_back xs)
 
 -- E: what holds where an item ends
-module _ (names : List (List ℕ)) (E : Cursor → Type 0) (at_comma : (c d : Cursor) → Mark p.Comma c d → E c) where
+module _ (names : List ℕ) (E : Cursor → Type 0) (at_comma : (c d : Cursor) → Mark p.Comma c d → E c) where
   abbrev pub AsExpr : ℕ → ℕ → ExprTree → Cursor → Cursor → Type 0
   AsExpr n level x c d = ExprSpells names level x c d × (expr_height x ≤ n) × E d
 
@@ -106,7 +106,7 @@ module _ (names : List (List ℕ)) (E : Cursor → Type 0) (at_comma : (c d : Cu
   comma_parameters_back n NoParameters c d h k e = h
   comma_parameters_back n (ConsParameter x xs) c d (m, o, a, b, r) k e = (o, (m, a, (b, omega (arith, k), parameters_end n xs o d r e)), comma_parameters_back n xs o d r (omega (arith, k)) e)
 
-module _ (names : List (List ℕ)) where
+module _ (names : List ℕ) where
   abbrev pub AsQualifier : ℕ → QualifierTree → Cursor → Cursor → Type 0
   AsQualifier n x c d = QualifierSpells names x c d × (qualifier_height x ≤ n)
 

@@ -98,7 +98,7 @@ pub record AreLocal (b : Parsers) : Type 0 where
   pub specs : (bodies : Bool) → Local (b.specs bodies)
   pub declarator : (name : Naming) → Local (b.declarator name)
 
-module _ (names : List (List ℕ)) where
+module _ (names : List ℕ) where
   name_by-local : (t : Token) (k : Kind) → Local (name_by names t k)
   name_by-local t (kind.Name n) = search locals depth 16
   name_by-local t _ = local_refuse S1

@@ -12,7 +12,7 @@ use Rattle.pa_reading.proofs.CompleteDeclarators.{complete}
 pub same_answer : {A : Type 0} {o : Outcome A} {x y : A} {c d : Cursor} → o ≡ Ok (x, c) → o ≡ Ok (y, d) → x ≡ y
 same_answer {A = A} {x = x} {y = y} {c = c} {d = d} e h = let q : ◌≡◌ {A = Result (A × Cursor) Stop} (Ok (x, c)) (Ok (y, d)) = sym e ∙ h in let r : ◌≡◌ {A = A × Cursor} (x, c) (y, d) = cc in ap (λ z. z.0) r
 
-module _ (names : List (List ℕ)) where
+module _ (names : List ℕ) where
   -- the tokens from a place on to their end
   pub one_expr : (t u : ExprTree) (level : ℕ) (c : Cursor) (y z : ℕ) → level ≤ 14 → ExprSpells names level t c (record { ended = y; ahead = [] }) → ExprSpells names level u c (record { ended = z; ahead = [] }) → t ≡ u
   one_expr t u level c y z l h i =

@@ -15,7 +15,7 @@ use Rattle.pa_reading.specs.declared.rule.ParseError.TheVariants.{Broken}
 use Rattle.pa_reading.specs.Answers.{to_of, ended_at, cursor_at, place_at, NoneGoesOn, Fitting, Asked, IsLongest, IsRefused, IsAnswer, Stopped, IsStop}
 use Rattle.pa_reading.specs.Parser.{Parser, Outcome, Stop}
 use Rattle.pa_reading.proofs.Local.{Local, LocalAt, Gives, Stops, with_ahead}
-use Rattle.pa_reading.proofs.Meets.{Meets, IfRead}
+use Rattle.pa_reading.proofs.Meets.{Meets}
 use Rattle.pa_reading.proofs.Frame.{on}
 
 -- the token of a number stands first behind those in front of it
@@ -81,13 +81,13 @@ module _ {A : Type 0} (Spelled : A → Cursor → Cursor → Type 0) (height : A
 
   module _ (r : Reader) where
     -- no longer list begins a tree where one is read
-    ends_there : (c e : Cursor) (t : A) (g : Gives p c t e) (u : Token) → head e.ahead ≡ Some u → NoneGoesOn Spelled (Fitting Spelled height room) c.ended g.front (Some u)
+    ends_there : (c e : Cursor) (t : A) (g : Gives p c t e) (u : Token) → head e.ahead ≡ Some u → NoneGoesOn Spelled (Fitting height room) c.ended g.front (Some u)
     ends_there c e t g u h = record {
       none = λ tree more to w s l.
           no_token u more w (ok_ahead (sym (g.again more (h ∙ w)) ∙ r.complete tree (record { ended = c.ended; ahead = g.front ++ more }) to s l));
     }
 
-    stops_there : (c : Cursor) (s : Stop) (g : Stops p c s) → NoneGoesOn Spelled (Fitting Spelled height room) c.ended g.front (head (s.at).ahead)
+    stops_there : (c : Cursor) (s : Stop) (g : Stops p c s) → NoneGoesOn Spelled (Fitting height room) c.ended g.front (head (s.at).ahead)
     stops_there c s g = record {
       none = λ tree more to w h l.
           let a = g.again more w in let b = r.complete tree (record { ended = c.ended; ahead = g.front ++ more }) to h l in cc;
@@ -132,7 +132,7 @@ module _ {A : Type 0} (Spelled : A → Cursor → Cursor → Type 0) (height : A
           spells = subst (λ x. Spelled t x (record { ended = e.ended; ahead = drop end tokens })) (behind_front at end tokens i w)
               (subst (λ l. Spelled t (on (drop end tokens) (cursor_at (take end tokens) at)) (record { ended = e.ended; ahead = l ++ drop end tokens })) n o);
           fits = h.1;
-          longest = λ u v. subst (NoneGoesOn Spelled (Fitting Spelled height room) (ended_at tokens at) g.front) (sym (ap head d) ∙ sym (get_at end tokens) ∙ v) (stops_there (cursor_at tokens at) s g);
+          longest = λ u v. subst (NoneGoesOn Spelled (Fitting height room) (ended_at tokens at) g.front) (sym (ap head d) ∙ sym (get_at end tokens) ∙ v) (stops_there (cursor_at tokens at) s g);
         }
 
     -- the same, as a program comes to it: its reader stands at c, and so many tokens are left
@@ -178,7 +178,7 @@ module _ {A : Type 0} (Spelled : A → Cursor → Cursor → Type 0) (height : A
     is_whole tree to (Ok r) e n = n (ap length (ok_ahead {x = r.0} {y = tree} {c = r.1} {d = record { ended = to; ahead = [] }} e))
     is_whole tree to (Err s) e n = cc
 
-    stops_all : (c : Cursor) (s : Stop) (g : Stops (p room) c s) → s.rule ≢ Broken S2 → NoneGoesOn Spelled (Asked Spelled height room S1) c.ended g.front (head (s.at).ahead)
+    stops_all : (c : Cursor) (s : Stop) (g : Stops (p room) c s) → s.rule ≢ Broken S2 → NoneGoesOn Spelled (Asked height room S1) c.ended g.front (head (s.at).ahead)
     stops_all c s g n = record {
       none = λ tree more to w h _.
           let d = max room (height tree) in
@@ -186,7 +186,7 @@ module _ {A : Type 0} (Spelled : A → Cursor → Cursor → Type 0) (height : A
           let b = (rs.of d).complete tree (record { ended = c.ended; ahead = g.front ++ more }) to h (le-max_right room (height tree)) in cc;
     }
 
-    stops_by : (rule : SynRule) (c : Cursor) (s : Stop) (g : Stops (p room) c s) → s.rule ≡ Broken rule → NoneGoesOn Spelled (Asked Spelled height room rule) c.ended g.front (head (s.at).ahead)
+    stops_by : (rule : SynRule) (c : Cursor) (s : Stop) (g : Stops (p room) c s) → s.rule ≡ Broken rule → NoneGoesOn Spelled (Asked height room rule) c.ended g.front (head (s.at).ahead)
     stops_by S1 c s g b = stops_all c s g (λ e. cc)
     stops_by S2 c s g b = stops_there Spelled height room (p room) (rs.of room) c s g
 
@@ -198,7 +198,7 @@ module _ {A : Type 0} (Spelled : A → Cursor → Cursor → Type 0) (height : A
         is_whole tree to o (sym q ∙ a) n
 
     -- what does not read these tokens whole spells none of the trees that fit
-    not_whole : (o : Outcome A) (ended : ℕ) (run : List Token) → NotWhole o → p room (record { ended = ended; ahead = run }) ≡ o → NoneGoesOn Spelled (Fitting Spelled height room) ended run None
+    not_whole : (o : Outcome A) (ended : ℕ) (run : List Token) → NotWhole o → p room (record { ended = ended; ahead = run }) ≡ o → NoneGoesOn Spelled (Fitting height room) ended run None
     not_whole o ended run n q = record { none = λ tree more to w h l. whole_not o ended run n q tree more to w h l }
 
     module _ (tokens : List Token) (at : ℕ) (c : Cursor) (is : c ≡ cursor_at tokens at) (e : ParseError) (to : Cursor) (n : ℕ) (h : p room c ≡ Err (record { rule = e; at = to })) (q : n ≡ length to.ahead) where
@@ -228,7 +228,7 @@ module _ {A : Type 0} (Spelled : A → Cursor → Cursor → Type 0) (height : A
               split = split;
               place_is = place_left place i;
               alone = not_whole o (ended_at tokens at) g.front w front;
-              refused = subst (NoneGoesOn Spelled (Asked Spelled height room rule) (ended_at tokens at) g.front) (sym (ap head left) ∙ sym (get_at end tokens)) (stops_by rule (cursor_at tokens at) s g b);
+              refused = subst (NoneGoesOn Spelled (Asked height room rule) (ended_at tokens at) g.front) (sym (ap head left) ∙ sym (get_at end tokens)) (stops_by rule (cursor_at tokens at) s g b);
             }
 
         is_stop : Stopped (p room) tokens at rule place

@@ -119,7 +119,7 @@ Fits naming.Named h = h ≡ true
 Fits naming.Unnamed h = h ≡ false
 Fits naming.Either h = Unit {0}
 
-module _ (names : List (List ℕ)) where
+module _ (names : List ℕ) where
   abbrev pub IsDeclarator : Naming → ℕ → DeclaratorTree → Cursor → Cursor → Type 0
   IsDeclarator name d x c e = Fits name (has_name x) × DeclaratorSpells names 0 x c e × (declarator_height x ≤ d)
 

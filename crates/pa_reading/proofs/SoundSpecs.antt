@@ -91,7 +91,7 @@ one_word word.Unsigned = refl
 qualifier_word : (k : Kind) → reading.begins_qualifier_by k ≡ true → is_word w.Const k ≡ false → k ≡ kind.Keyword w.Ptrauth
 qualifier_word k e n = is_word-true w.Ptrauth k (rw n at e)
 
-module _ (names : List (List ℕ)) where
+module _ (names : List ℕ) where
   module _ (d : ℕ) (here below : Parsers) (gh : (level : ℕ) (c : Cursor) → level ≤ 14 → Meets (here.expr level) c (λ t e. IsExpr names d level t c e)) where
     -- no more than so many further expressions
     record Further (n : ℕ) (c : Cursor) (xs : List ExprTree) (e : Cursor) : Type 0 where

@@ -1,5 +1,5 @@
 -- One turn of a list whose items stand one behind the other.
-use Rattle.std.proofs.Common.{◌≡◌, ◌<◌, ℕ, List, [], ◌∷◌, ◌++◌, length, map, Option, Bool, true, false, Ok, Err, refl, sym, ◌∙◌, ap, subst}
+use Rattle.std.proofs.Common.{◌≡◌, ◌<◌, List, [], ◌∷◌, ◌++◌, length, map, Option, Bool, true, false, Ok, Err, refl, sym, ◌∙◌, ap, subst}
 use Rattle.std.proofs.lemmas.List.{map-append}
 use Rattle.pa_lex.specs.declared.token.Punct.TheVariants as p
 use Rattle.pa_lex.specs.declared.token.Token.{Token}

@@ -1,9 +1,9 @@
 -- What a reader of one tree at a place among tokens answers.
-use Rattle.std.specs.Prelude.{◌≡◌, ◌≤◌, ◌-◌, ℕ, zero, suc, Bool, List, [], ◌∷◌, ◌++◌, length, drop, slice_get, Option, Some, None, Result, Ok, Err, if◌then◌else◌}
+use Rattle.std.specs.Prelude.{◌≡◌, ◌≤◌, ◌-◌, ℕ, zero, suc, Bool, List, [], ◌++◌, length, drop, slice_get, Option, Some, None, Result, Ok, Err, if◌then◌else◌}
 use Rattle.pa_num.specs.declared.fault.Fault.{Fault}
 use Rattle.pa_num.specs.declared.fault.Fault.TheVariants.{Refused, Memory}
 use Rattle.pa_lex.specs.declared.token.Token.{Token}
-use Rattle.pa_tree.specs.Cursors.{Cursor, head}
+use Rattle.pa_tree.specs.Cursors.{Cursor, head, place_by}
 use Rattle.pa_tree.specs.Exprs.{DeclaratorTree}
 use Rattle.pa_tree.specs.Spells.{DeclaratorSpells, has_name}
 use Rattle.pa_reading.specs.declared.rule.Level.{Level}
@@ -42,15 +42,11 @@ abbrev pub cursor_at : List Token → ℕ → Cursor
 cursor_at tokens at = record { ended = ended_at tokens at; ahead = drop at tokens }
 
 -- where the token of this number begins, or the last one ends
-abbrev pub place_by : List Token → ℕ → Option Token → ℕ
-place_by tokens end None = ended_at tokens end
-place_by tokens end (Some t) = t.from
-
 abbrev pub place_at : List Token → ℕ → ℕ
-place_at tokens end = place_by tokens end (slice_get tokens end)
+place_at tokens end = place_by (ended_at tokens end) (slice_get tokens end)
 
 -- from c to d stand the tokens of a declarator that declares a name, or of one without a name (C11 6.7.6, 6.7.7)
-abbrev pub DeclaratorOf : List (List ℕ) → Bool → DeclaratorTree → Cursor → Cursor → Type 0
+abbrev pub DeclaratorOf : List ℕ → Bool → DeclaratorTree → Cursor → Cursor → Type 0
 DeclaratorOf names named x c d = (has_name x ≡ named) × DeclaratorSpells names 0 x c d
 
 -- trees of a form: which tokens they spell, and which of them are asked for
@@ -59,8 +55,8 @@ module _ {A : Type 0} (Spelled : A → Cursor → Cursor → Type 0) (such : A �
   pub record NoneGoesOn (ended : ℕ) (run : List Token) (next : Option Token) : Type 0 where
     pub none : (tree : A) (more : List Token) (to : ℕ) → next ≡ head more → Spelled tree (record { ended = ended; ahead = run ++ more }) (record { ended = to; ahead = [] }) → such tree → ⊥
 
--- trees of a form, which tokens they spell, and how deep they may be
-module _ {A : Type 0} (Spelled : A → Cursor → Cursor → Type 0) (height : A → ℕ) (room : ℕ) where
+-- how deep trees of a form may be
+module _ {A : Type 0} (height : A → ℕ) (room : ℕ) where
   abbrev pub Fitting : A → Type 0
   Fitting tree = height tree ≤ room
 
@@ -69,6 +65,8 @@ module _ {A : Type 0} (Spelled : A → Cursor → Cursor → Type 0) (height : A
   Asked S1 tree = Unit {0}
   Asked S2 tree = Fitting tree
 
+-- trees of a form, which tokens they spell, and how deep they may be
+module _ {A : Type 0} (Spelled : A → Cursor → Cursor → Type 0) (height : A → ℕ) (room : ℕ) where
   -- The tokens from the one numbered `at` up to the one numbered `end` spell the tree, and they are the longest list from there that
   -- begins a tree that fits.
   pub record IsLongest (tokens : List Token) (at : ℕ) (tree : A) (end : ℕ) : Type 0 where
@@ -77,8 +75,8 @@ module _ {A : Type 0} (Spelled : A → Cursor → Cursor → Type 0) (height : A
     pub split : drop at tokens ≡ run ++ drop end tokens
     pub to : ℕ
     pub spells : Spelled tree (cursor_at tokens at) (record { ended = to; ahead = drop end tokens })
-    pub fits : Fitting tree
-    pub longest : (t : Token) → slice_get tokens end ≡ Some t → NoneGoesOn Spelled Fitting (ended_at tokens at) run (Some t)
+    pub fits : Fitting height room tree
+    pub longest : (t : Token) → slice_get tokens end ≡ Some t → NoneGoesOn Spelled (Fitting height room) (ended_at tokens at) run (Some t)
 
   -- The tokens from the one numbered `at` up to the one at this place, or all of them where it is the last one's end, are no tree's that
   -- fits. With the one there they begin none that fits either, and at S1 no tree at all.
@@ -88,8 +86,8 @@ module _ {A : Type 0} (Spelled : A → Cursor → Cursor → Type 0) (height : A
     pub run : List Token
     pub split : drop at tokens ≡ run ++ drop end tokens
     pub place_is : place ≡ place_at tokens end
-    pub alone : NoneGoesOn Spelled Fitting (ended_at tokens at) run None
-    pub refused : NoneGoesOn Spelled (Asked rule) (ended_at tokens at) run (slice_get tokens end)
+    pub alone : NoneGoesOn Spelled (Fitting height room) (ended_at tokens at) run None
+    pub refused : NoneGoesOn Spelled (Asked height room rule) (ended_at tokens at) run (slice_get tokens end)
 
   -- `tree`: a tree of the program as plain data
   module _ {B : Type 0} (tree : B → A) where

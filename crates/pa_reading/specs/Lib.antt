@@ -3,7 +3,6 @@ pub mod Commas
 pub mod Infixes
 pub mod Inside
 pub mod Nests
-pub mod Noted
 pub mod Parser
 pub mod Parts
 pub mod Reading

@@ -47,26 +47,26 @@ ReadsDeclarator outcome r new = Reads (λ q. declarator_tree q.0) outcome r new
 abbrev pub MeasuredDeclarator : ℕ → Result (Declarator × ℕ) ParseError → Type 0
 MeasuredDeclarator d r = IfOk r (λ q. (q.1 ≡ declarator_height (declarator_tree q.0)) × (q.1 ≤ d))
 
-pub record NestsExpr (d : ℕ) (pre : Global → Bor (List (List ℕ)) → MutBor Cursor → ℕ → ℕ → Type 0)
-    (post : Global → Bor (List (List ℕ)) → MutBor Cursor → ℕ → ℕ → Result (Expr × ℕ) ParseError → MutBor Cursor → Type 0) : Type 0 where
-  pub callable : (alloc : Global) (names : Bor (List (List ℕ))) (old : MutBor Cursor) (level : ℕ) → pre alloc names old d level
-  pub reads : (alloc : Global) (names : Bor (List (List ℕ))) (old new : MutBor Cursor) (level : ℕ) (r : Result (Expr × ℕ) ParseError) → post alloc names old d level r new
+pub record NestsExpr (d : ℕ) (pre : Global → Bor (List ℕ) → MutBor Cursor → ℕ → ℕ → Type 0)
+    (post : Global → Bor (List ℕ) → MutBor Cursor → ℕ → ℕ → Result (Expr × ℕ) ParseError → MutBor Cursor → Type 0) : Type 0 where
+  pub callable : (alloc : Global) (names : Bor (List ℕ)) (old : MutBor Cursor) (level : ℕ) → pre alloc names old d level
+  pub reads : (alloc : Global) (names : Bor (List ℕ)) (old new : MutBor Cursor) (level : ℕ) (r : Result (Expr × ℕ) ParseError) → post alloc names old d level r new
       → ReadsExpr ((parsers names.now d).expr level old.now) r new.now × Measured d r
 
-pub record NestsOpened (d : ℕ) (pre : Global → Bor (List (List ℕ)) → MutBor Cursor → ℕ → ℕ → Type 0)
-    (post : Global → Bor (List (List ℕ)) → MutBor Cursor → ℕ → ℕ → Result (Expr × ℕ) ParseError → MutBor Cursor → Type 0) : Type 0 where
-  pub callable : (alloc : Global) (names : Bor (List (List ℕ))) (old : MutBor Cursor) (from : ℕ) → pre alloc names old d from
-  pub reads : (alloc : Global) (names : Bor (List (List ℕ))) (old new : MutBor Cursor) (from : ℕ) (r : Result (Expr × ℕ) ParseError) → post alloc names old d from r new
+pub record NestsOpened (d : ℕ) (pre : Global → Bor (List ℕ) → MutBor Cursor → ℕ → ℕ → Type 0)
+    (post : Global → Bor (List ℕ) → MutBor Cursor → ℕ → ℕ → Result (Expr × ℕ) ParseError → MutBor Cursor → Type 0) : Type 0 where
+  pub callable : (alloc : Global) (names : Bor (List ℕ)) (old : MutBor Cursor) (from : ℕ) → pre alloc names old d from
+  pub reads : (alloc : Global) (names : Bor (List ℕ)) (old new : MutBor Cursor) (from : ℕ) (r : Result (Expr × ℕ) ParseError) → post alloc names old d from r new
       → ReadsExpr ((parsers names.now d).opened from old.now) r new.now × Measured d r
 
-pub record NestsSpecs (d : ℕ) (pre : Global → Bor (List (List ℕ)) → MutBor Cursor → ℕ → Bool → Type 0)
-    (post : Global → Bor (List (List ℕ)) → MutBor Cursor → ℕ → Bool → Result (Specs × ℕ) ParseError → MutBor Cursor → Type 0) : Type 0 where
-  pub callable : (alloc : Global) (names : Bor (List (List ℕ))) (old : MutBor Cursor) (bodies : Bool) → pre alloc names old d bodies
-  pub reads : (alloc : Global) (names : Bor (List (List ℕ))) (old new : MutBor Cursor) (bodies : Bool) (r : Result (Specs × ℕ) ParseError) → post alloc names old d bodies r new
+pub record NestsSpecs (d : ℕ) (pre : Global → Bor (List ℕ) → MutBor Cursor → ℕ → Bool → Type 0)
+    (post : Global → Bor (List ℕ) → MutBor Cursor → ℕ → Bool → Result (Specs × ℕ) ParseError → MutBor Cursor → Type 0) : Type 0 where
+  pub callable : (alloc : Global) (names : Bor (List ℕ)) (old : MutBor Cursor) (bodies : Bool) → pre alloc names old d bodies
+  pub reads : (alloc : Global) (names : Bor (List ℕ)) (old new : MutBor Cursor) (bodies : Bool) (r : Result (Specs × ℕ) ParseError) → post alloc names old d bodies r new
       → ReadsSpecs ((parsers names.now d).specs bodies old.now) r new.now × MeasuredSpecs d r
 
-pub record NestsDeclarator (d : ℕ) (pre : Global → Bor (List (List ℕ)) → MutBor Cursor → ℕ → Naming → Type 0)
-    (post : Global → Bor (List (List ℕ)) → MutBor Cursor → ℕ → Naming → Result (Declarator × ℕ) ParseError → MutBor Cursor → Type 0) : Type 0 where
-  pub callable : (alloc : Global) (names : Bor (List (List ℕ))) (old : MutBor Cursor) (name : Naming) → pre alloc names old d name
-  pub reads : (alloc : Global) (names : Bor (List (List ℕ))) (old new : MutBor Cursor) (name : Naming) (r : Result (Declarator × ℕ) ParseError) → post alloc names old d name r new
+pub record NestsDeclarator (d : ℕ) (pre : Global → Bor (List ℕ) → MutBor Cursor → ℕ → Naming → Type 0)
+    (post : Global → Bor (List ℕ) → MutBor Cursor → ℕ → Naming → Result (Declarator × ℕ) ParseError → MutBor Cursor → Type 0) : Type 0 where
+  pub callable : (alloc : Global) (names : Bor (List ℕ)) (old : MutBor Cursor) (name : Naming) → pre alloc names old d name
+  pub reads : (alloc : Global) (names : Bor (List ℕ)) (old new : MutBor Cursor) (name : Naming) (r : Result (Declarator × ℕ) ParseError) → post alloc names old d name r new
       → ReadsDeclarator ((parsers names.now d).declarator name old.now) r new.now × MeasuredDeclarator d r

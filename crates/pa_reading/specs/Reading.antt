@@ -118,7 +118,7 @@ least naming.Named = 1
 least _ = 0
 
 -- The names that are type names.
-module _ (names : List (List ℕ)) where
+module _ (names : List ℕ) where
   abbrev pub begins_type_by : Kind → Bool
   begins_type_by (kind.Name n) = is_type names n
   begins_type_by (kind.Keyword x) = begins_type_word x

@@ -15,7 +15,7 @@ fn begins_expr(names: &TypeNames, kind: &Kind) -> bool
     ensures { result ≡ reading.begins_expr_by names.now kind.now }
 {
     match kind {
-        Kind::Name(n) => !names.contains(n),
+        Kind::Name(name) => !names.contains(*name),
         Kind::Integer { .. } | Kind::Character(_) | Kind::Text(_) => true,
         Kind::Punct(punct) => {
             *punct == Punct::LeftParenthesis || PrefixOperator::from_punct(*punct).is_some()

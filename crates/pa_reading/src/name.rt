@@ -10,24 +10,21 @@ use crate::reader::Reader;
 use crate::rule::{ParseError, SynRule};
 use crate::type_names::TypeNames;
 use pa_lex::{Keyword, Kind, Token};
-use pa_num::Name;
 use pa_tree::Tag;
-use std::alloc::Global;
 
 /// A name that is no type name, with its place.
 #[tactic(auto, unfolding(crate::specs::Reading::plain_name))]
-pub fn plain_name(alloc: Global, names: &TypeNames, r: &mut Reader<'_>) -> Result<Tag, ParseError>
+pub fn plain_name(names: &TypeNames, r: &mut Reader<'_>) -> Result<Tag, ParseError>
     ensures { Reads (λ x. x) (reading.plain_name names.now r.old) result r.new }
 {
     let Some(t) = r.peek() else {
         return Err(ParseError::Broken(SynRule::S1));
     };
     match &t.kind {
-        Kind::Name(n) if !names.contains(n) => {
-            let name = Name::from_slice(alloc, n.as_slice())?;
+        Kind::Name(name) if !names.contains(*name) => {
             r.take(t);
             Ok(Tag {
-                name,
+                name: *name,
                 from: t.from,
                 to: t.to,
             })
@@ -63,7 +60,7 @@ pub fn begins_type(names: &TypeNames, next: Option<&Token>) -> bool
 {
     match next {
         Some(t) => match &t.kind {
-            Kind::Name(n) => names.contains(n),
+            Kind::Name(name) => names.contains(*name),
             Kind::Keyword(keyword) => begins_type_word(*keyword),
             _ => false,
         },

@@ -1,18 +1,17 @@
 use crate::{ParseError, Reader, SynRule, TypeNames, begins_type, needs};
 use pa_lex::{Punct, lex};
-use pa_num::Name;
 
 /// `( int`: a mark and a type.
 #[test]
 fn reads_from_the_left(rt: HostRuntime) {
     match lex(rt.alloc(), b"( int") {
-        Ok(tokens) => {
-            let mut r = Reader::new(tokens.as_slice());
+        Ok(lexed) => {
+            let mut r = Reader::new(lexed.tokens.as_slice());
             assert!(rt; r.sees(Punct::LeftParenthesis));
             assert!(rt; r.expect(Punct::RightParenthesis).is_err());
             assert!(rt; r.expect(Punct::LeftParenthesis).is_ok());
             assert_eq!(rt; r.ended(), 1);
-            assert!(rt; begins_type(&TypeNames::new(rt.alloc(), &[]), r.peek()));
+            assert!(rt; begins_type(&TypeNames::new(rt.alloc()), r.peek()));
         }
         Err(_) => assert!(rt; false),
     }
@@ -20,9 +19,10 @@ fn reads_from_the_left(rt: HostRuntime) {
 
 #[test]
 fn tells_names_and_depths(rt: HostRuntime) {
-    match Name::from_slice(rt.alloc(), b"T") {
-        Ok(name) => assert!(rt; !TypeNames::new(rt.alloc(), &[]).contains(&name)),
-        Err(_) => assert!(rt; false),
+    let mut names = TypeNames::new(rt.alloc());
+    assert!(rt; names.push(300).is_ok());
+    for (name, is_type) in [(300, true), (299, false), (301, false), (0, false)] {
+        assert_eq!(rt; names.contains(name), is_type);
     }
     assert_eq!(rt; needs(200, 200), Ok(()));
     assert_eq!(rt; needs(201, 200), Err(ParseError::Broken(SynRule::S2)));

@@ -7,7 +7,7 @@ use Rattle.pa_a64.specs.declared.instr.Instr.{Instr}
 use Rattle.pa_a64.specs.Decoding.{InRange, encoded}
 use Rattle.pa_a64.proofs.RoundTrip.{decoded-encoded}
 use Rattle.pa_mem.specs.Memory.{Region, fetch}
-use Rattle.pa_object.proofs.Placed.{Stands, HasCode}
+use Rattle.pa_object.specs.Placed.{Stands, HasCode}
 use Rattle.pa_image.specs.Places.{Area, word_of, word_from}
 
 -- the words stand in memory from a place on

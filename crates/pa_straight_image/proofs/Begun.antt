@@ -22,7 +22,8 @@ use Rattle.pa_object.specs.declared.end.End.TheVariants.{Exit}
 use Rattle.pa_object.specs.Machine.{Machine}
 use Rattle.pa_object.specs.Run.{Watched, watched, advance_by}
 use Rattle.pa_object.specs.Shape.{shape, Enter, all_known}
-use Rattle.pa_object.proofs.Placed.{HasCode, HasCode-append}
+use Rattle.pa_object.specs.Placed.{HasCode}
+use Rattle.pa_object.proofs.Placed.{HasCode-append}
 use Rattle.pa_object.proofs.Steps.{watching}
 use Rattle.pa_object.proofs.StepsRun.{watched-then, watched-machine, watched-ended, is_known-sign, AreBefore}
 use Rattle.pa_image.specs.declared.image.Image.{Image}

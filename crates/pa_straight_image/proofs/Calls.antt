@@ -13,7 +13,8 @@ use Rattle.pa_mem.specs.Memory.{Region, Read, allowed, load}
 use Rattle.pa_object.specs.Machine.{Machine}
 use Rattle.pa_object.specs.Run.{Place, watched}
 use Rattle.pa_object.specs.Shape.{Shown, Enter, shape}
-use Rattle.pa_object.proofs.Placed.{HasCode, HasCode-append}
+use Rattle.pa_object.specs.Placed.{HasCode}
+use Rattle.pa_object.proofs.Placed.{HasCode-append}
 use Rattle.pa_object.proofs.Steps.{register-set, watching, reach, no_step, movz_step, movk_step, bl_step, pacibsp_step, print_step, retab_step, add64_small, scaled64_small}
 use Rattle.pa_object.proofs.StepsLeads.{IsReady, Leads, leads-then, no_leads}
 use Rattle.pa_object.proofs.StepsRun.{is_known-more, is_known-sign, AreBefore-more, shape-called, shape-more, all_known-enter, all_known-return}

@@ -21,7 +21,7 @@ use Rattle.pa_object.specs.Traps.{trap_of}
 use Rattle.pa_object.specs.Effects.{effect}
 use Rattle.pa_object.specs.Run.{Place, step}
 use Rattle.pa_object.specs.Shape.{shape, all_known}
-use Rattle.pa_object.proofs.Placed.{Stands}
+use Rattle.pa_object.specs.Placed.{Stands}
 use Rattle.pa_object.proofs.Steps.{step_at, add64_small}
 
 -- ---- the rows

@@ -20,7 +20,8 @@ use Rattle.pa_object.specs.declared.end.End.TheVariants.{Exit}
 use Rattle.pa_object.specs.Machine.{Machine}
 use Rattle.pa_object.specs.Run.{Place, watched}
 use Rattle.pa_object.specs.Shape.{Enter, shape, all_known}
-use Rattle.pa_object.proofs.Placed.{Stands, HasCode, HasCode-append, HasCode-same}
+use Rattle.pa_object.specs.Placed.{Stands, HasCode}
+use Rattle.pa_object.proofs.Placed.{HasCode-append, HasCode-same}
 use Rattle.pa_object.proofs.Steps.{register-set, watching, reach, no_step, movz_step, movk_step, add_sp_step, sub_sp_step, stp_sp_step, ldp_sp_step, bl_step, pacibsp_step, retab_step, exit_step, add64_small, scaled64_small}
 use Rattle.pa_object.proofs.StepsRun.{watched-then, is_known-more, is_known-sign, AreBefore-more, shape-more, shape-entered, shape-return, all_known-enter, all_known-return}
 use Rattle.pa_object.proofs.StepsLeads.{IsReady, Leads, leads-then}

@@ -1,4 +1,4 @@
--- What a run of a program of the first form shows, loaded anywhere under any function for the code.
+-- What a run of a program of the first form shows, loaded anywhere under any PAC function.
 use Rattle.std.specs.Prelude.{◌≡◌, ℕ, ◌+◌, ◌*◌, ◌%◌, ◌^◌, ◌<◌, ◌≤◌, List, [], ◌∷◌, ◌++◌, length, map, true, Some, pos, codes}
 use Rattle.pa_pac.specs.Signing.{Code}
 use Rattle.pa_object.specs.declared.end.End.TheVariants.{Exit}
@@ -33,7 +33,7 @@ pub record Shows (image : Image) (slide : ℕ) (s : Straight) (w : Watched) : Ty
   pub putchar_is : entry (both image pal slide) (codes "_putchar") ≡ Some putchar
   pub shape : shape (got_slots (mapped image slide)) w.trail w.machine.log ≡ map (λ _. Enter putchar) s.prints ++ Enter main ∷ []
 
--- a run without a script and without input, of so many instructions at most
+-- a run without a script and without input, of at most this many instructions
 abbrev pub seen : Code → State → ℕ → Watched
 seen code state n = watched code [] n (unrun (begun_in state []))
 
@@ -42,7 +42,7 @@ abbrev pub RunsFrom : Image → Straight → (slide : ℕ) → Code → State �
 RunsFrom image s slide code state = (n : ℕ) → steps s ≤ n
     → Shows image slide s (seen code state n) × (run code [] n (begun_in state []) ≡ (seen code state n).machine)
 
--- for every function for the code and every slide: the program can be loaded so, and its runs show that
+-- for every PAC function and every slide: the program can be loaded so, and its runs show that
 abbrev pub Runs : Image → Straight → Type 0
 Runs image s = (code : Code) (slide : ℕ) → slide < 2 ^ 16
     → IsLoaded code image pal slide (loaded code image pal slide) × RunsFrom image s slide code (loaded code image pal slide)

@@ -29,7 +29,7 @@ pub fn text(alloc: Global, straight: &Straight) -> Result<Words, Memory>
     Ok(words)
 }
 
-/// The words of the stub of `_putchar` behind the text of so many calls.
+/// The words of the stub of `_putchar` behind the text of `prints` calls.
 pub fn stub_words(alloc: Global, prints: usize) -> Result<Words, Memory>
     requires { prints ≤ 1000 }
     ensures { IfOk result (λ words. words ≡ map encoded (stub (pages_between prints))) }
@@ -49,7 +49,7 @@ fn append(words: &mut Words, instructions: &[Instr]) -> Result<(), Memory>
     Ok(())
 }
 
-/// How many words lie between the text of so many calls and the stub, which begins at a multiple of 16 bytes.
+/// How many words lie between the text of `prints` calls and the stub, which begins at a multiple of 16 bytes.
 fn gap_behind(prints: usize) -> usize
     requires { prints ≤ 1000 }
     ensures { result ≡ gap_behind prints }
@@ -129,7 +129,7 @@ fn in_x0(number: u32) -> [Instr; 2]
     ]
 }
 
-/// A call of the stub, with so many calls behind it and so many words between the text and the stub.
+/// A call of the stub, with `behind` calls behind it and `gap` words between the text and the stub.
 fn call(gap: usize, number: u32, behind: usize) -> [Instr; 3]
     requires behind { behind < 1000 }
     requires gap { gap < 4 }
@@ -172,7 +172,7 @@ fn epilogue(number: u32) -> [Instr; 5]
     ]
 }
 
-/// Goes where the signed pointer leads that stands at the beginning of a page, so many pages of 4,096 bytes ahead. Registers
+/// Goes where the signed pointer leads that stands at the beginning of a page, `pages` pages of 4,096 bytes ahead. Registers
 /// 16 and 17 are free between functions (Procedure Call Standard for the Arm 64-bit Architecture: IP0 and IP1).
 fn stub(pages: u16) -> [Instr; 4]
     ensures { result ≡ stub pages }

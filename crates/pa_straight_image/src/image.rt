@@ -39,7 +39,7 @@ fn import_nothing(alloc: Global) -> Imported
     }
 }
 
-/// Where `_putchar` is called so many times: one stub, one name and one slot.
+/// Where `_putchar` is called `prints` times: one stub, one name and one slot.
 fn import_putchar(alloc: Global, prints: usize) -> Result<Imported, Memory>
     requires { prints ≤ 1000 }
     ensures { IfOk result (λ imported. imported ≡ record {
@@ -105,7 +105,7 @@ pub fn program_image(alloc: Global, straight: &Straight) -> Result<Image, Memory
     ensures legal { IfOk result IsLegal }
     ensures small { IfOk result IsSmall }
 
-    // What is printed, the end, the authentications and the functions entered, for every function for the code and every
+    // What is printed, the end, the authentications and the functions entered, for every PAC function and every
     // slide.
     ensures runs { IfOk result (λ image. Runs image straight.now) }
 {

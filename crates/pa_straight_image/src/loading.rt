@@ -11,7 +11,7 @@ use pa_pal::pal;
 use std::alloc::Global;
 
 /// Loads the image of a program beside the runtime image, `slide` pages above where its file says, under `p`. Each import
-/// is one of the runtime image's functions, so only want of memory stops it.
+/// is one of the runtime image's functions, so it stops only where it is out of memory.
 pub fn load_program<P: Pac>(
     alloc: Global,
     image: &Image,

@@ -36,7 +36,7 @@ use Rattle.pa_tree.specs.Exprs.{BaseTree, DeclaratorTree, ExprTree, ParametersTr
 use Rattle.pa_tree.specs.Stmts.{InitializerTree, Value, Braced, BlockItemTree, StmtTree, DeclarationItem, StatementItem, Compound, Expression, If, IfElse, While, DoWhile, For, Switch, Case, Default, Break, Continue, Return}
 use Rattle.pa_tree.specs.Views.{base_tree, declarator_tree, expr_tree, parameters_tree, qualifier_tree, enumerator_tree, member_tree, parameter_tree, specs_tree, type_name_tree, base_layer, declarator_layer, expr_layer, parameters_layer, qualifier_layer, enumerator_layer, member_layer, parameter_layer, specs_layer, type_name_layer, exprs_of, qualifiers_of, members_of, enumerators_of, declarators_of, parameters_of, maybe_expr, initializer_tree, initializer_layer, initializers_of, block_item_tree, stmt_tree, block_item_layer, stmt_layer, block_items_of, block_declaration_tree, for_start_tree}
 
-pub tree-Identifier : (name : List ℕ) (from to : ℕ) → expr_tree (vExpr.Identifier name from to) ≡ Identifier name from to
+pub tree-Identifier : (name : ℕ) (from to : ℕ) → expr_tree (vExpr.Identifier name from to) ≡ Identifier name from to
 unfolding expr_tree type_name_tree specs_tree qualifier_tree base_tree member_tree enumerator_tree declarator_tree parameters_tree parameter_tree
 tree-Identifier name from to = ap (fold-Expr BaseTree DeclaratorTree ExprTree ParametersTree QualifierTree EnumeratorTree MemberTree ParameterTree SpecsTree TypeNameTree base_layer declarator_layer expr_layer parameters_layer qualifier_layer enumerator_layer member_layer parameter_layer specs_layer type_name_layer) (sym (vExpr.rolls-Identifier name from to)) ∙ fold-roll-Expr BaseTree DeclaratorTree ExprTree ParametersTree QualifierTree EnumeratorTree MemberTree ParameterTree SpecsTree TypeNameTree base_layer declarator_layer expr_layer parameters_layer qualifier_layer enumerator_layer member_layer parameter_layer specs_layer type_name_layer (Expr-F.Identifier name from to)
 
@@ -64,11 +64,11 @@ pub tree-Call : (of : Expr) (arguments : List Expr) (from to : ℕ) → expr_tre
 unfolding expr_tree type_name_tree specs_tree qualifier_tree base_tree member_tree enumerator_tree declarator_tree parameters_tree parameter_tree
 tree-Call of arguments from to = ap (fold-Expr BaseTree DeclaratorTree ExprTree ParametersTree QualifierTree EnumeratorTree MemberTree ParameterTree SpecsTree TypeNameTree base_layer declarator_layer expr_layer parameters_layer qualifier_layer enumerator_layer member_layer parameter_layer specs_layer type_name_layer) (sym (vExpr.rolls-Call of arguments from to)) ∙ fold-roll-Expr BaseTree DeclaratorTree ExprTree ParametersTree QualifierTree EnumeratorTree MemberTree ParameterTree SpecsTree TypeNameTree base_layer declarator_layer expr_layer parameters_layer qualifier_layer enumerator_layer member_layer parameter_layer specs_layer type_name_layer (Expr-F.Call of arguments from to)
 
-pub tree-Dot : (of : Expr) (member : List ℕ) (from to : ℕ) → expr_tree (vExpr.Dot of member from to) ≡ Dot (expr_tree of) member from to
+pub tree-Dot : (of : Expr) (member : ℕ) (from to : ℕ) → expr_tree (vExpr.Dot of member from to) ≡ Dot (expr_tree of) member from to
 unfolding expr_tree type_name_tree specs_tree qualifier_tree base_tree member_tree enumerator_tree declarator_tree parameters_tree parameter_tree
 tree-Dot of member from to = ap (fold-Expr BaseTree DeclaratorTree ExprTree ParametersTree QualifierTree EnumeratorTree MemberTree ParameterTree SpecsTree TypeNameTree base_layer declarator_layer expr_layer parameters_layer qualifier_layer enumerator_layer member_layer parameter_layer specs_layer type_name_layer) (sym (vExpr.rolls-Dot of member from to)) ∙ fold-roll-Expr BaseTree DeclaratorTree ExprTree ParametersTree QualifierTree EnumeratorTree MemberTree ParameterTree SpecsTree TypeNameTree base_layer declarator_layer expr_layer parameters_layer qualifier_layer enumerator_layer member_layer parameter_layer specs_layer type_name_layer (Expr-F.Dot of member from to)
 
-pub tree-Arrow : (of : Expr) (member : List ℕ) (from to : ℕ) → expr_tree (vExpr.Arrow of member from to) ≡ Arrow (expr_tree of) member from to
+pub tree-Arrow : (of : Expr) (member : ℕ) (from to : ℕ) → expr_tree (vExpr.Arrow of member from to) ≡ Arrow (expr_tree of) member from to
 unfolding expr_tree type_name_tree specs_tree qualifier_tree base_tree member_tree enumerator_tree declarator_tree parameters_tree parameter_tree
 tree-Arrow of member from to = ap (fold-Expr BaseTree DeclaratorTree ExprTree ParametersTree QualifierTree EnumeratorTree MemberTree ParameterTree SpecsTree TypeNameTree base_layer declarator_layer expr_layer parameters_layer qualifier_layer enumerator_layer member_layer parameter_layer specs_layer type_name_layer) (sym (vExpr.rolls-Arrow of member from to)) ∙ fold-roll-Expr BaseTree DeclaratorTree ExprTree ParametersTree QualifierTree EnumeratorTree MemberTree ParameterTree SpecsTree TypeNameTree base_layer declarator_layer expr_layer parameters_layer qualifier_layer enumerator_layer member_layer parameter_layer specs_layer type_name_layer (Expr-F.Arrow of member from to)
 
@@ -128,7 +128,7 @@ pub tree-Words : (words : List IntegerWord) (from to : ℕ) → base_tree (vBase
 unfolding expr_tree type_name_tree specs_tree qualifier_tree base_tree member_tree enumerator_tree declarator_tree parameters_tree parameter_tree
 tree-Words words from to = ap (fold-Base BaseTree DeclaratorTree ExprTree ParametersTree QualifierTree EnumeratorTree MemberTree ParameterTree SpecsTree TypeNameTree base_layer declarator_layer expr_layer parameters_layer qualifier_layer enumerator_layer member_layer parameter_layer specs_layer type_name_layer) (sym (vBase.rolls-Words words from to)) ∙ fold-roll-Base BaseTree DeclaratorTree ExprTree ParametersTree QualifierTree EnumeratorTree MemberTree ParameterTree SpecsTree TypeNameTree base_layer declarator_layer expr_layer parameters_layer qualifier_layer enumerator_layer member_layer parameter_layer specs_layer type_name_layer (Base-F.Words words from to)
 
-pub tree-TypedefName : (name : List ℕ) (from to : ℕ) → base_tree (vBase.TypedefName name from to) ≡ TypedefName name from to
+pub tree-TypedefName : (name : ℕ) (from to : ℕ) → base_tree (vBase.TypedefName name from to) ≡ TypedefName name from to
 unfolding expr_tree type_name_tree specs_tree qualifier_tree base_tree member_tree enumerator_tree declarator_tree parameters_tree parameter_tree
 tree-TypedefName name from to = ap (fold-Base BaseTree DeclaratorTree ExprTree ParametersTree QualifierTree EnumeratorTree MemberTree ParameterTree SpecsTree TypeNameTree base_layer declarator_layer expr_layer parameters_layer qualifier_layer enumerator_layer member_layer parameter_layer specs_layer type_name_layer) (sym (vBase.rolls-TypedefName name from to)) ∙ fold-roll-Base BaseTree DeclaratorTree ExprTree ParametersTree QualifierTree EnumeratorTree MemberTree ParameterTree SpecsTree TypeNameTree base_layer declarator_layer expr_layer parameters_layer qualifier_layer enumerator_layer member_layer parameter_layer specs_layer type_name_layer (Base-F.TypedefName name from to)
 
@@ -152,12 +152,12 @@ pub tree-OfMember : (specs : Specs) (declarators : List Declarator) (from to : �
 unfolding expr_tree type_name_tree specs_tree qualifier_tree base_tree member_tree enumerator_tree declarator_tree parameters_tree parameter_tree
 tree-OfMember specs declarators from to = fold-roll-Member BaseTree DeclaratorTree ExprTree ParametersTree QualifierTree EnumeratorTree MemberTree ParameterTree SpecsTree TypeNameTree base_layer declarator_layer expr_layer parameters_layer qualifier_layer enumerator_layer member_layer parameter_layer specs_layer type_name_layer (record { specs = specs; declarators = declarators; from = from; to = to })
 
-pub tree-OfEnumerator : (name : List ℕ) (value : Option Expr) (from to : ℕ) → enumerator_tree (roll-Enumerator (record { name = name; value = value; from = from; to = to })) ≡ OfEnumerator name (maybe_expr (option_map expr_tree value)) from to
+pub tree-OfEnumerator : (name : ℕ) (value : Option Expr) (from to : ℕ) → enumerator_tree (roll-Enumerator (record { name = name; value = value; from = from; to = to })) ≡ OfEnumerator name (maybe_expr (option_map expr_tree value)) from to
 unfolding expr_tree type_name_tree specs_tree qualifier_tree base_tree member_tree enumerator_tree declarator_tree parameters_tree parameter_tree
 tree-OfEnumerator name None from to = fold-roll-Enumerator BaseTree DeclaratorTree ExprTree ParametersTree QualifierTree EnumeratorTree MemberTree ParameterTree SpecsTree TypeNameTree base_layer declarator_layer expr_layer parameters_layer qualifier_layer enumerator_layer member_layer parameter_layer specs_layer type_name_layer (record { name = name; value = None; from = from; to = to })
 tree-OfEnumerator name (Some x) from to = fold-roll-Enumerator BaseTree DeclaratorTree ExprTree ParametersTree QualifierTree EnumeratorTree MemberTree ParameterTree SpecsTree TypeNameTree base_layer declarator_layer expr_layer parameters_layer qualifier_layer enumerator_layer member_layer parameter_layer specs_layer type_name_layer (record { name = name; value = (Some x); from = from; to = to })
 
-pub tree-Named : (name : List ℕ) (from to : ℕ) → declarator_tree (vDeclarator.Named name from to) ≡ Named name from to
+pub tree-Named : (name : ℕ) (from to : ℕ) → declarator_tree (vDeclarator.Named name from to) ≡ Named name from to
 unfolding expr_tree type_name_tree specs_tree qualifier_tree base_tree member_tree enumerator_tree declarator_tree parameters_tree parameter_tree
 tree-Named name from to = ap (fold-Declarator BaseTree DeclaratorTree ExprTree ParametersTree QualifierTree EnumeratorTree MemberTree ParameterTree SpecsTree TypeNameTree base_layer declarator_layer expr_layer parameters_layer qualifier_layer enumerator_layer member_layer parameter_layer specs_layer type_name_layer) (sym (vDeclarator.rolls-Named name from to)) ∙ fold-roll-Declarator BaseTree DeclaratorTree ExprTree ParametersTree QualifierTree EnumeratorTree MemberTree ParameterTree SpecsTree TypeNameTree base_layer declarator_layer expr_layer parameters_layer qualifier_layer enumerator_layer member_layer parameter_layer specs_layer type_name_layer (Declarator-F.Named name from to)
 

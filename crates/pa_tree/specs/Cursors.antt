@@ -27,6 +27,14 @@ from_of (Some t) = t.from
 abbrev pub begin : Cursor → ℕ
 begin c = from_of (head c.ahead)
 
+abbrev pub place_by : ℕ → Option Token → ℕ
+place_by ended None = ended
+place_by ended (Some t) = t.from
+
+-- where the next token begins in the file, or the last one ends
+abbrev pub place : Cursor → ℕ
+place c = place_by c.ended (head c.ahead)
+
 -- a token of this kind and with these ends stands between
 pub record Takes (kind : Kind) (from to : ℕ) (c d : Cursor) : Type 0 where
   pub ahead : c.ahead ≡ record { kind = kind; from = from; to = to } ∷ d.ahead

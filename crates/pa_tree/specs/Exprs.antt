@@ -8,15 +8,15 @@ use Rattle.pa_tree.specs.declared.expr.Tag.{Tag}
 
 mutual
   pub data ExprTree : Type 0 where
-    Identifier : (name : List ℕ) (from to : ℕ) → ExprTree
+    Identifier : (name : ℕ) (from to : ℕ) → ExprTree
     Integer : (value : ℕ) (decimal : Bool) (unsigned : Bool) (long : Bool) (from to : ℕ) → ExprTree
     Character : (value : ℤ) (from to : ℕ) → ExprTree
     Text : (bytes : List ℕ) (from to : ℕ) → ExprTree
     Paren : (inner : ExprTree) (from to : ℕ) → ExprTree
     Index : (of : ExprTree) (at : ExprTree) (from to : ℕ) → ExprTree
     Call : (of : ExprTree) (arguments : ExprTrees) (from to : ℕ) → ExprTree
-    Dot : (of : ExprTree) (member : List ℕ) (from to : ℕ) → ExprTree
-    Arrow : (of : ExprTree) (member : List ℕ) (from to : ℕ) → ExprTree
+    Dot : (of : ExprTree) (member : ℕ) (from to : ℕ) → ExprTree
+    Arrow : (of : ExprTree) (member : ℕ) (from to : ℕ) → ExprTree
     Postfix : (op : Step) (of : ExprTree) (from to : ℕ) → ExprTree
     Prefix : (op : PrefixOperator) (of : ExprTree) (from to : ℕ) → ExprTree
     SizeofExpr : (of : ExprTree) (from to : ℕ) → ExprTree
@@ -39,7 +39,7 @@ mutual
     Void : (from to : ℕ) → BaseTree
     Boolean : (from to : ℕ) → BaseTree
     Words : (words : List IntegerWord) (from to : ℕ) → BaseTree
-    TypedefName : (name : List ℕ) (from to : ℕ) → BaseTree
+    TypedefName : (name : ℕ) (from to : ℕ) → BaseTree
     StructTag : (tag : Tag) (from to : ℕ) → BaseTree
     StructBody : (tag : Option Tag) (members : MemberTrees) (from to : ℕ) → BaseTree
     EnumTag : (tag : Tag) (from to : ℕ) → BaseTree
@@ -49,10 +49,10 @@ mutual
     OfMember : (specs : SpecsTree) (declarators : DeclaratorTrees) (from to : ℕ) → MemberTree
 
   pub data EnumeratorTree : Type 0 where
-    OfEnumerator : (name : List ℕ) (value : MaybeExprTree) (from to : ℕ) → EnumeratorTree
+    OfEnumerator : (name : ℕ) (value : MaybeExprTree) (from to : ℕ) → EnumeratorTree
 
   pub data DeclaratorTree : Type 0 where
-    Named : (name : List ℕ) (from to : ℕ) → DeclaratorTree
+    Named : (name : ℕ) (from to : ℕ) → DeclaratorTree
     Absent : (from to : ℕ) → DeclaratorTree
     Pointer : (qualifiers : QualifierTrees) (of : DeclaratorTree) (from to : ℕ) → DeclaratorTree
     Grouped : (inner : DeclaratorTree) (from to : ℕ) → DeclaratorTree

@@ -1,11 +1,12 @@
 -- Which tokens a statement, a declaration or a file spells.
-use Rattle.std.specs.Prelude.{◌≡◌, ◌≢◌, ℕ, Bool, true, false, List, [], ◌∷◌, ◌++◌, Option, Some, None, codes}
+use Rattle.std.specs.Prelude.{◌≡◌, ◌≢◌, ℕ, Bool, true, false, List, [], ◌∷◌, ◌++◌, Option, Some, None}
 use Rattle.pa_lex.specs.declared.token.Kind.TheVariants as kind
 use Rattle.pa_lex.specs.declared.token.Keyword.{Keyword}
 use Rattle.pa_lex.specs.declared.token.Keyword.TheVariants as w
 use Rattle.pa_lex.specs.declared.token.Punct.TheVariants as p
 use Rattle.pa_lex.specs.declared.token.Include.TheVariants as include
 use Rattle.pa_lex.specs.declared.token.Token.{Token}
+use Rattle.pa_lex.specs.Numbering.{stdint_numbers}
 use Rattle.pa_tree.specs.declared.file.Storage.{Storage}
 use Rattle.pa_tree.specs.declared.file.Storage.TheVariants as storage
 use Rattle.pa_tree.specs.Cursors.{Cursor, start, Takes, Lies, Mark, Word}
@@ -29,7 +30,7 @@ is_compound (Compound items a z) = true
 is_compound _ = false
 
 -- The names that are type names.
-module _ (names : List (List ℕ)) where
+module _ (names : List ℕ) where
   abbrev pub MaybeExprSpells : Option ExprTree → Cursor → Cursor → Type 0
   MaybeExprSpells None c d = c ≡ d
   MaybeExprSpells (Some e) c d = ExprSpells names 0 e c d
@@ -51,38 +52,43 @@ module _ (names : List (List ℕ)) where
   MaybeInitializerSpells None c d = c ≡ d
   MaybeInitializerSpells (Some i) c d = (m : Cursor) × Mark p.Assign c m × InitializerSpells i m d
 
--- the names that are type names behind a declarator: a typedef makes its name one, from the declarator's end on
-abbrev pub declared_name : DeclaratorTree → List ℕ
-declared_name (Named name a z) = name
-declared_name (Absent a z) = []
+-- the name that a declarator declares
+abbrev pub declared_name : DeclaratorTree → Option ℕ
+declared_name (Named name a z) = Some name
+declared_name (Absent a z) = None
 declared_name (Pointer _ of a z) = declared_name of
 declared_name (Grouped inner a z) = declared_name inner
 declared_name (Array of length a z) = declared_name of
 declared_name (Function of parameters a z) = declared_name of
 
-abbrev pub behind : Option Storage → DeclaratorTree → List (List ℕ) → List (List ℕ)
-behind (Some storage.Typedef) declarator names = declared_name declarator ∷ names
+abbrev pub with_type : Option ℕ → List ℕ → List ℕ
+with_type None names = names
+with_type (Some name) names = name ∷ names
+
+-- the names that are type names behind a declarator: a typedef makes its name one, from the declarator's end on
+abbrev pub behind : Option Storage → DeclaratorTree → List ℕ → List ℕ
+behind (Some storage.Typedef) declarator names = with_type (declared_name declarator) names
 behind _ declarator names = names
 
-abbrev pub behind_all : Option Storage → List InitDeclaratorTree → List (List ℕ) → List (List ℕ)
+abbrev pub behind_all : Option Storage → List InitDeclaratorTree → List ℕ → List ℕ
 behind_all word [] names = names
 behind_all word (OfInitDeclarator declarator initializer a z ∷ more) names = behind_all word more (behind word declarator names)
 
 -- `storage`: the word in front of the declaration
 module _ (word : Option Storage) where
-  abbrev pub InitDeclaratorSpells : List (List ℕ) → InitDeclaratorTree → Cursor → Cursor → Type 0
+  abbrev pub InitDeclaratorSpells : List ℕ → InitDeclaratorTree → Cursor → Cursor → Type 0
   InitDeclaratorSpells names (OfInitDeclarator declarator initializer a z) c d =
       (m : Cursor) × (has_name declarator ≡ true) × DeclaratorSpells names 0 declarator c m × MaybeInitializerSpells (behind word declarator names) initializer m d × Lies a z c d
 
-  abbrev pub CommaInitDeclarators : List (List ℕ) → List InitDeclaratorTree → Cursor → Cursor → Type 0
+  abbrev pub CommaInitDeclarators : List ℕ → List InitDeclaratorTree → Cursor → Cursor → Type 0
   CommaInitDeclarators names [] c d = c ≡ d
   CommaInitDeclarators names (x ∷ xs) c d = (m n : Cursor) × Mark p.Comma c m × InitDeclaratorSpells names x m n × CommaInitDeclarators (behind_all word (x ∷ []) names) xs n d
 
-  abbrev pub InitDeclaratorsSpell : List (List ℕ) → List InitDeclaratorTree → Cursor → Cursor → Type 0
+  abbrev pub InitDeclaratorsSpell : List ℕ → List InitDeclaratorTree → Cursor → Cursor → Type 0
   InitDeclaratorsSpell names [] c d = c ≡ d
   InitDeclaratorsSpell names (x ∷ xs) c d = (m : Cursor) × InitDeclaratorSpells names x c m × CommaInitDeclarators (behind_all word (x ∷ []) names) xs m d
 
-module _ (names : List (List ℕ)) where
+module _ (names : List ℕ) where
   abbrev pub BlockDeclarationSpells : BlockDeclarationTree → Cursor → Cursor → Type 0
   BlockDeclarationSpells (OfBlockDeclaration specs declarators a z) c d =
       (m n : Cursor) × SpecsSpell names false specs c m × (declarators ≢ []) × InitDeclaratorsSpell None names declarators m n × Mark p.Semicolon n d × Lies a z c d
@@ -127,34 +133,28 @@ abbrev pub StorageSpells : Option Storage → Cursor → Cursor → Type 0
 StorageSpells None c d = c ≡ d
 StorageSpells (Some word) c d = Word (storage_word word) c d
 
-abbrev pub DeclarationSpells : List (List ℕ) → DeclarationTree → Cursor → Cursor → Type 0
+abbrev pub DeclarationSpells : List ℕ → DeclarationTree → Cursor → Cursor → Type 0
 DeclarationSpells names (OfDeclaration word specs declarators a z) c d =
     (m n o : Cursor) × StorageSpells word c m × SpecsSpell names true specs m n × InitDeclaratorsSpell word names declarators n o × Mark p.Semicolon o d × Lies a z c d
 
-abbrev pub FunctionDefinitionSpells : List (List ℕ) → FunctionDefinitionTree → Cursor → Cursor → Type 0
+abbrev pub FunctionDefinitionSpells : List ℕ → FunctionDefinitionTree → Cursor → Cursor → Type 0
 FunctionDefinitionSpells names (OfFunctionDefinition word specs declarator body a z) c d =
     (m n o : Cursor) × (word ≢ Some storage.Typedef) × StorageSpells word c m × SpecsSpell names true specs m n × (has_name declarator ≡ true) × DeclaratorSpells names 0 declarator n o
     × (is_compound body ≡ true) × StmtSpells names body o d × Lies a z c d
 
-abbrev pub FileItemSpells : List (List ℕ) → FileItemTree → Cursor → Cursor → Type 0
+abbrev pub FileItemSpells : List ℕ → FileItemTree → Cursor → Cursor → Type 0
 FileItemSpells names (Included line a z) c d = Takes (kind.Include line) a z c d
 FileItemSpells names (Declared declaration a z) c d = DeclarationSpells names declaration c d × Lies a z c d
 FileItemSpells names (Defined definition a z) c d = FunctionDefinitionSpells names definition c d × Lies a z c d
 
--- the types of `<stdint.h>` (C11 7.20.1.1)
-abbrev pub stdint_types : List (List ℕ)
-stdint_types =
-    codes "int8_t" ∷ codes "int16_t" ∷ codes "int32_t" ∷ codes "int64_t"
-    ∷ codes "uint8_t" ∷ codes "uint16_t" ∷ codes "uint32_t" ∷ codes "uint64_t" ∷ []
-
 -- the names that are type names behind an item of a file
-abbrev pub behind_item : FileItemTree → List (List ℕ) → List (List ℕ)
-behind_item (Included include.Stdint a z) names = stdint_types ++ names
+abbrev pub behind_item : FileItemTree → List ℕ → List ℕ
+behind_item (Included include.Stdint a z) names = stdint_numbers ++ names
 behind_item (Included _ a z) names = names
 behind_item (Declared (OfDeclaration word specs declarators _ _) a z) names = behind_all word declarators names
 behind_item (Defined definition a z) names = names
 
-abbrev pub FileItemsSpell : List (List ℕ) → FileTree → Cursor → Cursor → Type 0
+abbrev pub FileItemsSpell : List ℕ → FileTree → Cursor → Cursor → Type 0
 FileItemsSpell names [] c d = c ≡ d
 FileItemsSpell names (x ∷ xs) c d = (m : Cursor) × FileItemSpells names x c m × FileItemsSpell (behind_item x names) xs m d
 

@@ -1,7 +1,6 @@
 -- Which tokens a tree of an expression, of specifiers or of a declarator spells: its leaves, from left to right.
-use Rattle.std.specs.Prelude.{◌≡◌, ◌≢◌, ◌≤◌, ◌⊎◌, ℕ, suc, Bool, true, false, List, [], ◌∷◌, Option, Some, None}
+use Rattle.std.specs.Prelude.{◌≡◌, ◌≢◌, ◌≤◌, ◌⊎◌, ◌==◌, ℕ, suc, Bool, true, false, List, [], ◌∷◌, Option, Some, None}
 use Rattle.std.specs.List.{list_any, concat}
-use Rattle.std.specs.Str.{bytes_eq}
 use Rattle.pa_lex.specs.declared.token.Kind.TheVariants as kind
 use Rattle.pa_lex.specs.declared.token.Keyword.TheVariants as w
 use Rattle.pa_lex.specs.declared.token.Punct.TheVariants as p
@@ -46,16 +45,16 @@ abbrev pub expr_count : ExprTrees → ℕ
 expr_count NoExprs = 0
 expr_count (ConsExpr e es) = suc (expr_count es)
 
--- The names that are type names.
-module _ (names : List (List ℕ)) where
-  abbrev pub is_type : List ℕ → Bool
-  is_type name = list_any (λ n. bytes_eq n name) names
+-- The names that are type names, by number.
+module _ (names : List ℕ) where
+  abbrev pub is_type : ℕ → Bool
+  is_type name = list_any (λ n. n == name) names
 
   -- a name that is no type name
-  abbrev pub NameSpells : List ℕ → ℕ → ℕ → Cursor → Cursor → Type 0
+  abbrev pub NameSpells : ℕ → ℕ → ℕ → Cursor → Cursor → Type 0
   NameSpells name a z c d = (is_type name ≡ false) × Takes (kind.Name name) a z c d
 
-  abbrev pub PlainName : List ℕ → Cursor → Cursor → Type 0
+  abbrev pub PlainName : ℕ → Cursor → Cursor → Type 0
   PlainName name c d = (is_type name ≡ false) × Shifts (kind.Name name) c d
 
   abbrev pub TagSpells : Tag → Cursor → Cursor → Type 0

@@ -1,11 +1,12 @@
 use crate::operator::{BinaryOperator, IntegerWord, PrefixOperator, Step};
-use pa_num::{Bytes, Name};
+use pa_lex::NameNumber;
+use pa_num::Bytes;
 use sqlite_items::{Boxed, Items};
 
 /// The tag of a struct or an enumeration, with its place.
-#[derive(Debug, Drop)]
+#[derive(Clone, Copy, Debug, PartialEq, Eq)]
 pub struct Tag {
-    pub name: Name,
+    pub name: NameNumber,
     pub from: u32,
     pub to: u32,
 }
@@ -16,7 +17,7 @@ pub struct Tag {
 pub enum Expr {
     /// A name that is no type name (6.5.1).
     Identifier {
-        name: Name,
+        name: NameNumber,
         from: u32,
         to: u32,
     },
@@ -64,14 +65,14 @@ pub enum Expr {
     /// `of . member` (6.5.2.3).
     Dot {
         of: Boxed<Expr>,
-        member: Name,
+        member: NameNumber,
         from: u32,
         to: u32,
     },
     /// `of -> member` (6.5.2.3).
     Arrow {
         of: Boxed<Expr>,
-        member: Name,
+        member: NameNumber,
         from: u32,
         to: u32,
     },
@@ -186,7 +187,7 @@ pub enum Base {
     },
     /// A name that a typedef or `<stdint.h>` declares (6.7.8).
     TypedefName {
-        name: Name,
+        name: NameNumber,
         from: u32,
         to: u32,
     },
@@ -232,7 +233,7 @@ pub struct Member {
 #[cycle(syntax)]
 #[derive(Drop)]
 pub struct Enumerator {
-    pub name: Name,
+    pub name: NameNumber,
     pub value: Option<Boxed<Expr>>,
     pub from: u32,
     pub to: u32,
@@ -244,7 +245,7 @@ pub struct Enumerator {
 pub enum Declarator {
     /// The name that is declared.
     Named {
-        name: Name,
+        name: NameNumber,
         from: u32,
         to: u32,
     },

@@ -2,7 +2,7 @@
 use Rattle.std.proofs.Common.{◌≡◌, ℕ, suc, ◌+◌, List, [], ◌∷◌, length, map, ap, refl}
 use Rattle.pa_typed.specs.declared.expr.TExpr.{TExpr}
 use Rattle.pa_typed.specs.Counts.{part_count}
-use Rattle.pa_typed.specs.Views.{t_expr_tree, t_exprs_of}
+use Rattle.pa_typed.specs.Views.{bare_expr, t_exprs_of}
 use Rattle.pa_typed.specs.Typed.{TypedExpr, TypedExprs, LocalPlace, GlobalPlace, StringPlace, Same, Member, Index, Deref, Number, Load, LoadSigned, Store, StoreSigned, AddressOf, FunctionValue, Convert, Unary, Binary, PointerAdd, PointerSub, Compare, And, Or, Choose, Comma, CallDirect, CallPointer, NoTExprs, ConsTExpr, TypedStmt, TypedStmts, Compound, InitLocal, Expression, If, IfElse, While, DoWhile, For, Switch, Case, Default, Break, Continue, Return, NoTStmts, ConsTStmt}
 
 abbrev mutual
@@ -38,7 +38,7 @@ abbrev mutual
   parts_size NoTExprs = 0
   parts_size (ConsTExpr e es) = suc (expr_size e + parts_size es)
 
-pub part_count_is : (es : List TExpr) → part_count (t_exprs_of (map t_expr_tree es)) ≡ length es
+pub part_count_is : (es : List TExpr) → part_count (t_exprs_of (map bare_expr es)) ≡ length es
 part_count_is [] = refl
 part_count_is (e ∷ es) = ap suc (part_count_is es)
 

@@ -4,7 +4,7 @@ use Rattle.std.specs.Int.{next_multiple_of}
 use Rattle.pa_typed.specs.declared.unit.CLocal.{CLocal}
 use Rattle.pa_typed.specs.declared.unit.Function.{Function}
 use Rattle.pa_typed.specs.Typed.{TypedExpr, TypedExprs, LocalPlace, GlobalPlace, StringPlace, Same, Member, Index, Deref, Number, Load, LoadSigned, Store, StoreSigned, AddressOf, FunctionValue, Convert, Unary, Binary, PointerAdd, PointerSub, Compare, And, Or, Choose, Comma, CallDirect, CallPointer, NoTExprs, ConsTExpr, TypedGiven, GivenValue, GivenText, TypedInitial, TypedLocalInit, TypedForStart, TypedStmt, TypedStmts, Declares, Evaluates, Compound, InitLocal, Expression, If, IfElse, While, DoWhile, For, Switch, Case, Default, Break, Continue, Return, NoTStmts, ConsTStmt}
-use Rattle.pa_typed.specs.Views.{t_stmt_tree}
+use Rattle.pa_typed.specs.Views.{bare_stmt}
 
 -- How many values may wait while an expression is evaluated. Of one without parts it is 1. Of `&&`, `||`, `?:` and the comma it is
 -- the largest of a part's. Of any other it is the largest of i - 1 plus that of its i-th part, the parts counted from 1 in the order
@@ -107,7 +107,7 @@ abbrev pub local_bytes : Function → ℕ
 local_bytes f = locals_bytes f.locals
 
 unfoldable pub pend : Function → ℕ
-pend f = stmt_pend (t_stmt_tree f.body)
+pend f = stmt_pend (bare_stmt f.body)
 
 -- what an open call of the function weighs on the stack
 abbrev pub weight : Function → ℕ

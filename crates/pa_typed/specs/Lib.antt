@@ -1,3 +1,4 @@
 pub mod Counts
 pub mod Typed
+pub mod Units
 pub mod Views

@@ -3,7 +3,7 @@
 ghost use Rattle.std.specs.Prelude.{◌≡◌, ◌<◌, ◌+◌, ◌^◌, map, max};
 ghost use Rattle.std.specs.Option.{option_map};
 ghost use Rattle.pa_typed.specs.Counts as spec;
-ghost use Rattle.pa_typed.specs.Views.{t_expr_tree, t_exprs_of, t_stmt_tree, t_stmts_of, t_for_start_tree, given_tree, initial_tree, local_init_tree};
+ghost use Rattle.pa_typed.specs.Views.{bare_expr, t_exprs_of, bare_stmt, t_stmts_of, bare_for_start, bare_given, bare_initial, bare_local_init};
 
 use crate::expr::TExpr;
 use crate::stmt::{Given, Initial, LocalInit, TForStart, TStmt};
@@ -33,17 +33,17 @@ pub fn local_bytes(function: &Function) -> u64
 /// The values that may wait while the second part is evaluated behind the first.
 #[cycle(pend)]
 fn two_pend(left: &TExpr, right: &TExpr) -> u64
-    requires left { spec.expr_pend (t_expr_tree left.now) < 2 ^ 64 }
-    requires right { 1 + spec.expr_pend (t_expr_tree right.now) < 2 ^ 64 }
-    ensures { result ≡ max (spec.expr_pend (t_expr_tree left.now)) (1 + spec.expr_pend (t_expr_tree right.now)) }
+    requires left { spec.expr_pend (bare_expr left.now) < 2 ^ 64 }
+    requires right { 1 + spec.expr_pend (bare_expr right.now) < 2 ^ 64 }
+    ensures { result ≡ max (spec.expr_pend (bare_expr left.now)) (1 + spec.expr_pend (bare_expr right.now)) }
 {
     expr_pend(left).max(1 + expr_pend(right))
 }
 
 #[cycle(pend)]
 fn parts_pend(parts: &[TExpr]) -> u64
-    requires { spec.parts_pend 0 (t_exprs_of (map t_expr_tree parts.now)) < 2 ^ 64 }
-    ensures { result ≡ spec.parts_pend 0 (t_exprs_of (map t_expr_tree parts.now)) }
+    requires { spec.parts_pend 0 (t_exprs_of (map bare_expr parts.now)) < 2 ^ 64 }
+    ensures { result ≡ spec.parts_pend 0 (t_exprs_of (map bare_expr parts.now)) }
 {
     let mut largest = 0;
     let mut before = 0;
@@ -59,8 +59,8 @@ fn parts_pend(parts: &[TExpr]) -> u64
 #[cycle(pend)]
 #[tactic(auto, using(crate::proofs::Views::typed_expr_views, crate::proofs::Sizes::part_count_is))]
 fn expr_pend(e: &TExpr) -> u64
-    requires { spec.expr_pend (t_expr_tree e.now) < 2 ^ 64 }
-    ensures { result ≡ spec.expr_pend (t_expr_tree e.now) }
+    requires { spec.expr_pend (bare_expr e.now) < 2 ^ 64 }
+    ensures { result ≡ spec.expr_pend (bare_expr e.now) }
 {
     match e {
         TExpr::LocalPlace { .. }
@@ -108,8 +108,8 @@ fn expr_pend(e: &TExpr) -> u64
 }
 
 fn maybe_pend(e: &Option<TExpr>) -> u64
-    requires { spec.maybe_pend (option_map t_expr_tree e.now) < 2 ^ 64 }
-    ensures { result ≡ spec.maybe_pend (option_map t_expr_tree e.now) }
+    requires { spec.maybe_pend (option_map bare_expr e.now) < 2 ^ 64 }
+    ensures { result ≡ spec.maybe_pend (option_map bare_expr e.now) }
 {
     match e {
         Some(e) => expr_pend(e),
@@ -118,8 +118,8 @@ fn maybe_pend(e: &Option<TExpr>) -> u64
 }
 
 fn given_pend(given: &Given) -> u64
-    requires { spec.given_pend (given_tree given.now) < 2 ^ 64 }
-    ensures { result ≡ spec.given_pend (given_tree given.now) }
+    requires { spec.given_pend (bare_given given.now) < 2 ^ 64 }
+    ensures { result ≡ spec.given_pend (bare_given given.now) }
 {
     match given {
         Given::Value { value } => expr_pend(value),
@@ -128,8 +128,8 @@ fn given_pend(given: &Given) -> u64
 }
 
 fn initials_pend(initials: &[Initial]) -> u64
-    requires { spec.initials_pend (map initial_tree initials.now) < 2 ^ 64 }
-    ensures { result ≡ spec.initials_pend (map initial_tree initials.now) }
+    requires { spec.initials_pend (map bare_initial initials.now) < 2 ^ 64 }
+    ensures { result ≡ spec.initials_pend (map bare_initial initials.now) }
 {
     let mut largest = 0;
     let mut rest = initials;
@@ -141,8 +141,8 @@ fn initials_pend(initials: &[Initial]) -> u64
 }
 
 fn name_pend(name: &LocalInit) -> u64
-    requires { spec.name_pend (local_init_tree name.now) < 2 ^ 64 }
-    ensures { result ≡ spec.name_pend (local_init_tree name.now) }
+    requires { spec.name_pend (bare_local_init name.now) < 2 ^ 64 }
+    ensures { result ≡ spec.name_pend (bare_local_init name.now) }
 {
     match &name.initials {
         Some(initials) => initials_pend(initials.as_slice()),
@@ -151,8 +151,8 @@ fn name_pend(name: &LocalInit) -> u64
 }
 
 fn names_pend(names: &[LocalInit]) -> u64
-    requires { spec.names_pend (map local_init_tree names.now) < 2 ^ 64 }
-    ensures { result ≡ spec.names_pend (map local_init_tree names.now) }
+    requires { spec.names_pend (map bare_local_init names.now) < 2 ^ 64 }
+    ensures { result ≡ spec.names_pend (map bare_local_init names.now) }
 {
     let mut largest = 0;
     let mut rest = names;
@@ -164,8 +164,8 @@ fn names_pend(names: &[LocalInit]) -> u64
 }
 
 fn start_pend(start: &TForStart) -> u64
-    requires { spec.start_pend (t_for_start_tree start.now) < 2 ^ 64 }
-    ensures { result ≡ spec.start_pend (t_for_start_tree start.now) }
+    requires { spec.start_pend (bare_for_start start.now) < 2 ^ 64 }
+    ensures { result ≡ spec.start_pend (bare_for_start start.now) }
 {
     match start {
         TForStart::Declares { names } => names_pend(names.as_slice()),
@@ -175,8 +175,8 @@ fn start_pend(start: &TForStart) -> u64
 
 #[cycle(stmt_pend)]
 fn stmts_pend(stmts: &[TStmt]) -> u64
-    requires { spec.stmts_pend (t_stmts_of (map t_stmt_tree stmts.now)) < 2 ^ 64 }
-    ensures { result ≡ spec.stmts_pend (t_stmts_of (map t_stmt_tree stmts.now)) }
+    requires { spec.stmts_pend (t_stmts_of (map bare_stmt stmts.now)) < 2 ^ 64 }
+    ensures { result ≡ spec.stmts_pend (t_stmts_of (map bare_stmt stmts.now)) }
 {
     let mut largest = 0;
     let mut rest = stmts;
@@ -190,8 +190,8 @@ fn stmts_pend(stmts: &[TStmt]) -> u64
 #[cycle(stmt_pend)]
 #[tactic(auto, using(crate::proofs::Views::typed_stmt_views))]
 fn stmt_pend(stmt: &TStmt) -> u64
-    requires { spec.stmt_pend (t_stmt_tree stmt.now) < 2 ^ 64 }
-    ensures { result ≡ spec.stmt_pend (t_stmt_tree stmt.now) }
+    requires { spec.stmt_pend (bare_stmt stmt.now) < 2 ^ 64 }
+    ensures { result ≡ spec.stmt_pend (bare_stmt stmt.now) }
 {
     match stmt {
         TStmt::Compound { items } => stmts_pend(items.as_slice()),

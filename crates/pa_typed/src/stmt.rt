@@ -1,5 +1,4 @@
-use crate::expr::TExpr;
-use pa_ctype::CType;
+use crate::expr::{ExprType, TExpr};
 use pa_num::Sequence;
 use sqlite_items::{Boxed, Items};
 
@@ -17,7 +16,7 @@ pub enum Given {
 #[derive(Drop)]
 pub struct Initial {
     pub at: u64,
-    pub of: CType,
+    pub of: ExprType,
     pub given: Given,
 }
 
@@ -97,7 +96,7 @@ pub enum TStmt {
     /// expression, a number.
     Case {
         value: u64,
-        of: CType,
+        of: ExprType,
         body: Boxed<TStmt>,
     },
     /// `default : body`.

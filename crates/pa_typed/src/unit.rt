@@ -1,13 +1,13 @@
-use crate::expr::TExpr;
+use crate::expr::{ExprType, TExpr};
 use crate::stmt::TStmt;
-use pa_ctype::{CType, Structs};
-use pa_num::{Bytes, Name, Sequence};
+use pa_ctype::Types;
+use pa_num::{Bytes, Names, Sequence};
 
 /// A cell of a global (a part of a scalar type, at this offset in bytes) and the value that it gets.
 #[derive(Drop)]
 pub struct Cell {
     pub at: u64,
-    pub of: CType,
+    pub of: ExprType,
     pub value: TExpr,
 }
 
@@ -19,9 +19,9 @@ pub type Cells = Sequence<Cell>;
 pub type Texts = Sequence<Bytes>;
 
 /// An object of a function: a parameter, or a name that a block declares. `size` and `align` are those of its type, in bytes.
-#[derive(Drop)]
+#[derive(Clone, Copy, Debug, PartialEq, Eq)]
 pub struct CLocal {
-    pub of: CType,
+    pub of: u32,
     pub size: u64,
     pub align: u64,
 }
@@ -33,10 +33,10 @@ pub type CLocals = Sequence<CLocal>;
 /// `parameters` of its locals are its parameters.
 #[derive(Drop)]
 pub struct Function {
-    pub name: Name,
+    pub name: u32,
     pub place: u64,
     pub public: bool,
-    pub of: CType,
+    pub of: u32,
     pub parameters: u32,
     pub locals: CLocals,
     pub body: TStmt,
@@ -48,10 +48,10 @@ pub type Functions = Sequence<Function>;
 /// An object at file level. Its `cells` are the initialized ones, those of a string that initializes an array among them.
 #[derive(Drop)]
 pub struct CGlobal {
-    pub name: Name,
+    pub name: u32,
     pub place: u64,
     pub public: bool,
-    pub of: CType,
+    pub of: u32,
     pub size: u64,
     pub align: u64,
     pub cells: Cells,
@@ -61,12 +61,12 @@ pub struct CGlobal {
 pub type CGlobals = Sequence<CGlobal>;
 
 /// A declaration of a function or a global at file level.
-#[derive(Drop)]
+#[derive(Clone, Copy, Debug, PartialEq, Eq)]
 pub struct Declared {
-    pub name: Name,
+    pub name: u32,
     pub place: u64,
     pub public: bool,
-    pub of: CType,
+    pub of: u32,
 }
 
 /// Declarations in the order of the source.
@@ -78,7 +78,8 @@ pub struct Unit {
     pub functions: Functions,
     pub globals: CGlobals,
     pub declared: Declareds,
-    pub structs: Structs,
+    pub types: Types,
+    pub names: Names,
     pub texts: Texts,
     pub nodes: u64,
 }
@@ -90,7 +91,8 @@ pub struct Program {
     pub functions: Functions,
     pub globals: CGlobals,
     pub declared: Declareds,
-    pub structs: Structs,
+    pub types: Types,
+    pub names: Names,
     pub texts: Texts,
     pub nodes: u64,
 }

@@ -1,0 +1,15 @@
+pub mod Blocks
+pub mod Finding
+pub mod Initializers
+pub mod Larger
+pub mod Laws
+pub mod Near
+pub mod NearExprs
+pub mod NearStmts
+pub mod Numbering
+pub mod Numbers
+pub mod Objects
+pub mod Pointers
+pub mod Rows
+pub mod Runs
+pub mod Trees

@@ -1,0 +1,11 @@
+pub mod Calls
+pub mod ExprTypes
+pub mod Expressions
+pub mod Finding
+pub mod Integers
+pub mod Mean
+pub mod Operations
+pub mod Results
+pub mod State
+pub mod Statements
+pub mod Statics

@@ -1,0 +1,2 @@
+//! Programs of several files. Definitions stand in `specs/`.
+#![tactic(auto)]

@@ -1,0 +1,3 @@
+mod Above
+mod Rows
+pub mod Runs

@@ -1,0 +1,6 @@
+//! Which typed form an expression of C has, or the first rule that it breaks and where.
+#![tactic(auto)]
+
+mod rule;
+
+pub use rule::TypeRule;

@@ -1,0 +1,4 @@
+pub mod Items
+pub mod Pieces
+pub mod Rules
+pub mod Spelled
