@@ -6,21 +6,22 @@ use Rattle.pa_lex.specs.declared.token.Token.{Token}
 use Rattle.pa_reading.specs.declared.rule.SynRule.{SynRule}
 use Rattle.pa_reading.specs.declared.rule.SynRule.TheVariants.{S1, S2}
 use Rattle.pa_reading.specs.declared.rule.ParseError.TheVariants.{Broken}
-use Rattle.pa_tree.specs.Cursors.{Cursor, start, head}
+use Rattle.pa_tree.specs.Cursors.{Cursor, start, head, place}
 use Rattle.pa_tree.specs.Files.{Spells}
 use Rattle.pa_tree.specs.Heights.{file_height}
 use Rattle.pa_tree.specs.Stmts.{FileTree}
 use Rattle.pa_reading.specs.Parser.{Stop}
 use Rattle.pa_reading.proofs.Local.{LocalAt, Stops, with_ahead}
-use Rattle.pa_pdecl.specs.Answers.{IsFile, Meant, IsRefused, place, most_levels}
+use Rattle.pa_reading.specs.Answers.{most_levels, Asked}
+use Rattle.pa_pdecl.specs.Answers.{IsFile, IsRefused}
 use Rattle.pa_pdecl.specs.Reading.{file}
 use Rattle.pa_pdecl.proofs.Deeper.{file_stops}
 use Rattle.pa_pdecl.proofs.LocalReading.{file-local}
-use Rattle.pa_pdecl.proofs.Complete.{file_is}
+use Rattle.pa_pdecl.proofs.Complete.{file_is, one_file}
 use Rattle.pa_pdecl.proofs.Sound.{file_sound}
 
 pub read_file : (tokens : List Token) (f : FileTree) (e : Cursor) → file most_levels (start tokens) ≡ Ok (f, e) → IsFile tokens f
-read_file tokens f e h = let r = file_sound most_levels f tokens e h in record { spells = r.0; fits = r.1 }
+read_file tokens f e h = let r = file_sound most_levels f tokens e h in record { spells = r.0; fits = r.1; only = λ g s. one_file g f tokens s r.0 }
 
 stops_at : (d : ℕ) (tokens : List Token) (s : Stop) → LocalAt (file d) (start tokens) (file d (start tokens)) → file d (start tokens) ≡ Err s → Stops (file d) (start tokens) s
 stops_at d tokens s h e = rw e at h
@@ -40,7 +41,7 @@ none_at d tokens s e front split x f w sp l =
 
 -- A file that the rule speaks of is within a depth in which reading stops too.
 none_meant : (tokens : List Token) (rule : SynRule) (s : Stop) → s.rule ≡ Broken rule → file most_levels (start tokens) ≡ Err s → (front : List Token) → tokens ≡ front ++ (s.at).ahead
-    → (x : List Token) (f : FileTree) → head (s.at).ahead ≡ head x → Spells f (front ++ x) → Meant rule f → ⊥
+    → (x : List Token) (f : FileTree) → head (s.at).ahead ≡ head x → Spells f (front ++ x) → Asked file_height most_levels rule f → ⊥
 none_meant tokens S1 s r e front split x f w sp _ =
     let d = max most_levels (file_height f) in
     none_at d tokens s (file_stops most_levels d (start tokens) s (le-max_left most_levels (file_height f)) (λ q. cc) e) front split x f w sp (le-max_right most_levels (file_height f))

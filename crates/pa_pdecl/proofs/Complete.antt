@@ -67,7 +67,7 @@ last_quiet : (q r e : Cursor) → LastComma q r → Mark p.RightBrace r e → Qu
 last_quiet q r e (inl same) k = rw same (quiet_mark p.RightBrace 1 r e refl k)
 last_quiet q r e (inr c) k = quiet_comma 1 q r (omega arith) c
 
-module _ (names : List (List ℕ)) where
+module _ (names : List ℕ) where
   rest_quiet : (xs : InitializerTrees) (c q : Cursor) → CommaInitializers names xs c q → Quiet 1 q → Quiet 1 c
   rest_quiet NoInitializers c q h e = rw h e
   rest_quiet (ConsInitializer x xs) c q h e = quiet_comma 1 c h.0 (omega arith) h.2
@@ -141,39 +141,39 @@ module _ (names : List (List ℕ)) where
   ends_here None c e h q = rw h q.ends
   ends_here (Some i) c e (m, k, h) q = rw (k.takes).ahead refl
 
-pub behind_append : (word : Option Storage) (xs : List InitDeclaratorTree) (x : InitDeclaratorTree) (names : List (List ℕ)) → behind_all word (xs ++ x ∷ []) names ≡ behind_all word (x ∷ []) (behind_all word xs names)
+pub behind_append : (word : Option Storage) (xs : List InitDeclaratorTree) (x : InitDeclaratorTree) (names : List ℕ) → behind_all word (xs ++ x ∷ []) names ≡ behind_all word (x ∷ []) (behind_all word xs names)
 behind_append word [] x names = refl
 behind_append word (OfInitDeclarator y i a z ∷ ys) x names = behind_append word ys x (behind word y names)
 
 module _ (word : Option Storage) (d : ℕ) where
-  finished_is : (names : List (List ℕ)) (x : DeclaratorTree) (i : Option InitializerTree) (from a z : ℕ) (c m e : Cursor) → from ≡ a → MaybeInitializerSpells (behind word x names) i m e → maybe_initializer_height i ≤ d → EndsInit (behind word x names) e → z ≡ e.ended → reading.finished word d names from x m ≡ Ok (OfInitDeclarator x i a z, e)
+  finished_is : (names : List ℕ) (x : DeclaratorTree) (i : Option InitializerTree) (from a z : ℕ) (c m e : Cursor) → from ≡ a → MaybeInitializerSpells (behind word x names) i m e → maybe_initializer_height i ≤ d → EndsInit (behind word x names) e → z ≡ e.ended → reading.finished word d names from x m ≡ Ok (OfInitDeclarator x i a z, e)
   finished_is names x i from a z c m e f h l q u = bind_is (reading.assigned (behind word x names) d) (λ y. ended >>= (λ v. pure (OfInitDeclarator x y from v))) m e i (Ok (OfInitDeclarator x i a z, e)) (assigned_is (behind word x names) d i m e h l q) (close (OfInitDeclarator x i) from a z e f u)
 
-  init_declarator_is : (names : List (List ℕ)) (x : InitDeclaratorTree) (c e : Cursor) → InitDeclaratorSpells word names x c e → init_declarator_height x ≤ d → ((n : List (List ℕ)) → EndsInit n e) → reading.init_declarator word d names c ≡ Ok (x, e)
+  init_declarator_is : (names : List ℕ) (x : InitDeclaratorTree) (c e : Cursor) → InitDeclaratorSpells word names x c e → init_declarator_height x ≤ d → ((n : List ℕ) → EndsInit n e) → reading.init_declarator word d names c ≡ Ok (x, e)
   unfolding reading.init_declarator
   init_declarator_is names (OfInitDeclarator x i a z) c e (m, n, h, j, lies) l q = bind_is ((parsers names d).declarator naming.Named) (reading.finished word d names (begin c)) c m x (Ok (OfInitDeclarator x i a z, e))
       ((complete names d).declarator x naming.Named c m n h (omega (arith, l)) (ends_here (behind word x names) i m e j (q (behind word x names))))
       (finished_is names x i (begin c) a z c m e (sym lies.from_is) j (omega (arith, l)) (q (behind word x names)) lies.to_is)
 
-  rest_ends : (names : List (List ℕ)) (xs : List InitDeclaratorTree) (c e : Cursor) → CommaInitDeclarators word names xs c e → ((n : List (List ℕ)) → EndsInit n e) → (n : List (List ℕ)) → EndsInit n c
+  rest_ends : (names : List ℕ) (xs : List InitDeclaratorTree) (c e : Cursor) → CommaInitDeclarators word names xs c e → ((n : List ℕ) → EndsInit n e) → (n : List ℕ) → EndsInit n c
   rest_ends names [] c e h q n = rw h (q n)
   rest_ends names (x ∷ xs) c e h q n = at_comma n c h.0 h.2
 
-  declared_stops : (names : List (List ℕ)) (all : List InitDeclaratorTree) (c z : Cursor) → Mark p.Semicolon c z → reading.declared_step word d names all c ≡ Ok (Done all, c)
+  declared_stops : (names : List ℕ) (all : List InitDeclaratorTree) (c z : Cursor) → Mark p.Semicolon c z → reading.declared_step word d names all c ≡ Ok (Done all, c)
   declared_stops names all c z k = if_false (sees p.Comma (head c.ahead)) _ _ c (Ok (Done all, c)) (sees_not p.Comma p.Semicolon c z k refl) refl
 
-  declared_goes : (names : List (List ℕ)) (all : List InitDeclaratorTree) (x : InitDeclaratorTree) (c m n : Cursor) → Mark p.Comma c m → InitDeclaratorSpells word (behind_all word all names) x m n → init_declarator_height x ≤ d → ((i : List (List ℕ)) → EndsInit i n) → reading.declared_step word d names all c ≡ Ok (More (all ++ x ∷ []), n)
+  declared_goes : (names : List ℕ) (all : List InitDeclaratorTree) (x : InitDeclaratorTree) (c m n : Cursor) → Mark p.Comma c m → InitDeclaratorSpells word (behind_all word all names) x m n → init_declarator_height x ≤ d → ((i : List ℕ) → EndsInit i n) → reading.declared_step word d names all c ≡ Ok (More (all ++ x ∷ []), n)
   declared_goes names all x c m n b h l q = if_true (sees p.Comma (head c.ahead)) _ _ c (Ok (More (all ++ x ∷ []), n)) (sees_is p.Comma c m b)
       (marked p.Comma (reading.init_declarator word d (behind_all word all names) >>= (λ y. pure (More (all ++ y ∷ [])))) c m (Ok (More (all ++ x ∷ []), n)) b
       (bind_is (reading.init_declarator word d (behind_all word all names)) (λ y. pure (More (all ++ y ∷ []))) m n x (Ok (More (all ++ x ∷ []), n)) (init_declarator_is (behind_all word all names) x m n h l q) refl))
 
-  declared_is : (names : List (List ℕ)) (xs all : List InitDeclaratorTree) (c e z : Cursor) → CommaInitDeclarators word (behind_all word all names) xs c e → init_declarators_height xs ≤ d → Mark p.Semicolon e z → reading.declared word d names all c ≡ Ok (all ++ xs, e)
+  declared_is : (names : List ℕ) (xs all : List InitDeclaratorTree) (c e z : Cursor) → CommaInitDeclarators word (behind_all word all names) xs c e → init_declarators_height xs ≤ d → Mark p.Semicolon e z → reading.declared word d names all c ≡ Ok (all ++ xs, e)
   declared_is names [] all c e z h l k = rw h (one_turn (reading.declared_step word d names) (declared-shrinks word d names) all e ∙ ap (λ x. and_then x (goes (iterate (reading.declared_step word d names)))) (declared_stops names all e z k) ∙ ap (λ x. Ok (x, e)) (sym (append-nil all)))
   declared_is names (x ∷ xs) all c e z (m, n, b, h, t) l k = one_turn (reading.declared_step word d names) (declared-shrinks word d names) all c
       ∙ ap (λ y. and_then y (goes (iterate (reading.declared_step word d names)))) (declared_goes names all x c m n b h (omega (arith, l)) (rest_ends (behind_all word (x ∷ []) (behind_all word all names)) xs n e t (λ i. at_semicolon i e z k)))
       ∙ declared_is names xs (all ++ x ∷ []) n e z (subst (λ i. CommaInitDeclarators word i xs n e) (sym (behind_append word all x names)) t) (omega (arith, l)) k ∙ ap (λ y. Ok (y, e)) (append_assoc all (x ∷ []) xs)
 
-type_no_else : (names : List (List ℕ)) (h : Option Token) → begins_type names h ≡ true → reading.reads_word w.Else h ≡ false
+type_no_else : (names : List ℕ) (h : Option Token) → begins_type names h ≡ true → reading.reads_word w.Else h ≡ false
 type_no_else names None e = refl
 type_no_else names (Some t) e = by_kind t.kind e
   where
@@ -187,7 +187,7 @@ type_no_else names (Some t) e = by_kind t.kind e
     by_kind (kind.Text bytes) q = refl
     by_kind (kind.Include x) q = refl
 
-expr_no_else : (names : List (List ℕ)) (h : Option Token) → begins_expr names h ≡ true → reading.reads_word w.Else h ≡ false
+expr_no_else : (names : List ℕ) (h : Option Token) → begins_expr names h ≡ true → reading.reads_word w.Else h ≡ false
 expr_no_else names None e = refl
 expr_no_else names (Some t) e = by_kind t.kind e
   where
@@ -227,7 +227,7 @@ named_pos (Grouped inner a z) h = omega arith
 named_pos (Array of length a z) h = omega arith
 named_pos (Function of parameters a z) h = omega arith
 
-module _ (names : List (List ℕ)) where
+module _ (names : List ℕ) where
   block_type : (b : BlockDeclarationTree) (c e : Cursor) → BlockDeclarationSpells names b c e → begins_type names (head c.ahead) ≡ true
   block_type (OfBlockDeclaration specs ds a z) c e h = specs_type names false specs c h.0 h.2
 
@@ -413,7 +413,7 @@ module _ (names : List (List ℕ)) where
   stmt_is (suc d) s c e h l o = level_is d (reading.stmt names d) (stmt_is d) (stmt-local names d) (stmt-eats names d) s c e h l o
 
 -- a declarator with a name begins with no `;`
-no_semicolon : (names : List (List ℕ)) (x : DeclaratorTree) (l : ℕ) (c e : Cursor) → has_name x ≡ true → DeclaratorSpells names l x c e → sees p.Semicolon (head c.ahead) ≡ false
+no_semicolon : (names : List ℕ) (x : DeclaratorTree) (l : ℕ) (c e : Cursor) → has_name x ≡ true → DeclaratorSpells names l x c e → sees p.Semicolon (head c.ahead) ≡ false
 no_semicolon names (Named n a z) l c e q h = rw (h.1).ahead refl
 no_semicolon names (Absent a z) l c e q h = cc
 no_semicolon names (Pointer qs of a z) l c e q h = rw ((h.3).takes).ahead refl
@@ -425,11 +425,11 @@ begin_of : {k : Kind} {a z : ℕ} {c m : Cursor} → Takes k a z c m → a ≡ b
 begin_of h = sym (ap (λ x. from_of (head x)) h.ahead)
 
 module _ (d : ℕ) where
-  pub names_append : (xs : FileTree) (x : FileItemTree) (names : List (List ℕ)) → reading.names_behind d (xs ++ x ∷ []) names ≡ behind_item x (reading.names_behind d xs names)
+  pub names_append : (xs : FileTree) (x : FileItemTree) (names : List ℕ) → reading.names_behind d (xs ++ x ∷ []) names ≡ behind_item x (reading.names_behind d xs names)
   names_append [] x names = refl
   names_append (y ∷ ys) x names = names_append ys x (behind_item y names)
 
-  typed_not_stored : (names : List (List ℕ)) (k : Kind) → begins_type_by names k ≡ true → reading.storage_of d k ≡ None
+  typed_not_stored : (names : List ℕ) (k : Kind) → begins_type_by names k ≡ true → reading.storage_of d k ≡ None
   typed_not_stored names (kind.Keyword w.Typedef) e = cc
   typed_not_stored names (kind.Keyword w.Static) e = cc
   typed_not_stored names (kind.Keyword w.Extern) e = cc
@@ -441,7 +441,7 @@ module _ (d : ℕ) where
   typed_not_stored names (kind.Text bytes) e = cc
   typed_not_stored names (kind.Include x) e = cc
 
-  stored_none : (names : List (List ℕ)) (c : Cursor) (h : Option Token) → begins_type names h ≡ true → reading.stored_at d h c ≡ Ok (None, c)
+  stored_none : (names : List ℕ) (c : Cursor) (h : Option Token) → begins_type names h ≡ true → reading.stored_at d h c ≡ Ok (None, c)
   stored_none names c None e = refl
   stored_none names c (Some t) e = rw (typed_not_stored names t.kind e) refl
 
@@ -450,7 +450,7 @@ module _ (d : ℕ) where
   storage_back storage.Static = refl
   storage_back storage.Extern = refl
 
-  stored_is : (names : List (List ℕ)) (word : Option Storage) (c m : Cursor) → StorageSpells word c m → begins_type names (head m.ahead) ≡ true → reading.stored d c ≡ Ok (word, m)
+  stored_is : (names : List ℕ) (word : Option Storage) (c m : Cursor) → StorageSpells word c m → begins_type names (head m.ahead) ≡ true → reading.stored d c ≡ Ok (word, m)
   stored_is names None c m h t = rw h (stored_none names m (head m.ahead) t)
   stored_is names (Some x) c m h t = look_is (reading.stored_at d) c m h (Ok (Some x, m)) (rw (storage_back x) (took h (pure (Some x)) (Ok (Some x, m)) refl))
 
@@ -460,11 +460,11 @@ module _ (d : ℕ) where
   no_typedef (Some storage.Static) n = refl
   no_typedef (Some storage.Extern) n = refl
 
-  module _ (names : List (List ℕ)) where
+  module _ (names : List ℕ) where
     ends_is : (word : Option Storage) (s : SpecsTree) (xs : List InitDeclaratorTree) (from a z a2 z2 : ℕ) (c e : Cursor) → from ≡ a → from ≡ a2 → z ≡ e.ended → z2 ≡ e.ended → Mark p.Semicolon c e → reading.ends_declaration d word s xs from c ≡ Ok (Declared (OfDeclaration word s xs a z) a2 z2, e)
     ends_is word s xs from a z a2 z2 c e f f2 u u2 k = marked p.Semicolon (ended >>= (λ y. pure (Declared (OfDeclaration word s xs from y) from y))) c e (Ok (Declared (OfDeclaration word s xs a z) a2 z2, e)) k (rw (← f, ← f2, u, u2) refl)
 
-    init_no_brace : (i : Option InitializerTree) (xs : List InitDeclaratorTree) (word : Option Storage) (n n2 : List (List ℕ)) (c m e z : Cursor) → MaybeInitializerSpells n i c m → CommaInitDeclarators word n2 xs m e → Mark p.Semicolon e z → sees p.LeftBrace (head c.ahead) ≡ false
+    init_no_brace : (i : Option InitializerTree) (xs : List InitDeclaratorTree) (word : Option Storage) (n n2 : List ℕ) (c m e z : Cursor) → MaybeInitializerSpells n i c m → CommaInitDeclarators word n2 xs m e → Mark p.Semicolon e z → sees p.LeftBrace (head c.ahead) ≡ false
     init_no_brace (Some i) xs word n n2 c m e z h r k = sees_not p.LeftBrace p.Assign c h.0 h.1 refl
     init_no_brace None [] word n n2 c m e z h r k = rw (h ∙ r) (sees_not p.LeftBrace p.Semicolon e z k refl)
     init_no_brace None (x ∷ xs) word n n2 c m e z h r k = rw h (sees_not p.LeftBrace p.Comma m r.0 r.2 refl)
@@ -562,16 +562,16 @@ module _ (d : ℕ) where
         (external_is word s (begin c) c m n (Ok (Defined (OfFunctionDefinition word s x b a z) a2 z2, e)) h t (omega (arith, l)) (name_ends names x 0 n o y q)
         (definition_is word s x b (begin c) a z a2 z2 n o e (sym lies.from_is) (sym lies2.from_is) lies.to_is lies2.to_is w y q (omega (arith, l)) k r (omega (arith, l))))
 
-  type_some : (names : List (List ℕ)) (h : Option Token) → begins_type names h ≡ true → is_some h ≡ true
+  type_some : (names : List ℕ) (h : Option Token) → begins_type names h ≡ true → is_some h ≡ true
   type_some names None e = cc
   type_some names (Some t) e = refl
 
-  stored_some : (names : List (List ℕ)) (word : Option Storage) (c m : Cursor) → StorageSpells word c m → begins_type names (head m.ahead) ≡ true → is_some (head c.ahead) ≡ true
+  stored_some : (names : List ℕ) (word : Option Storage) (c m : Cursor) → StorageSpells word c m → begins_type names (head m.ahead) ≡ true → is_some (head c.ahead) ≡ true
   stored_some names None c m h t = rw h (type_some names (head m.ahead) t)
   stored_some names (Some x) c m h t = rw (h.takes).ahead refl
 
   -- an item has a token
-  item_some : (names : List (List ℕ)) (x : FileItemTree) (c e : Cursor) → FileItemSpells names x c e → is_some (head c.ahead) ≡ true
+  item_some : (names : List ℕ) (x : FileItemTree) (c e : Cursor) → FileItemSpells names x c e → is_some (head c.ahead) ≡ true
   item_some names (Included line a z) c e k = rw k.ahead refl
   item_some names (Declared (OfDeclaration word s ds a z) a2 z2) c e ((m, n, o, h, t, r, k, lies), lies2) = stored_some names word c m h (specs_type names true s m n t)
   item_some names (Defined (OfFunctionDefinition word s x b a z) a2 z2) c e ((m, n, o, w, h, t, y, q, k, r, lies), lies2) = stored_some names word c m h (specs_type names true s m n t)

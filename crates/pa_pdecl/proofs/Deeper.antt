@@ -24,7 +24,7 @@ use Rattle.pa_pdecl.specs.Reading as reading
 deeper_word : (x : Keyword) → Deeper (reading.word x) (reading.word x)
 deeper_word x = deeper_same
 
-module _ (names : List (List ℕ)) where
+module _ (names : List ℕ) where
   item_behind-deeper : (item further : Parser InitializerTree) → Deeper item further → (items : List InitializerTree) (h : Option Token) → Deeper (reading.item_behind names item items h) (reading.item_behind names further items h)
   item_behind-deeper item further g items h = deeper_if (sees p.RightBrace h) deeper_same (deeper_bind g (λ x. deeper_same))
 
@@ -58,23 +58,23 @@ module _ (names : List (List ℕ)) where
   assigned-deeper d = deeper_look (assigned_at-deeper d)
 
 module _ (word : Option Storage) (d : ℕ) where
-  finished-deeper : (names : List (List ℕ)) (from : ℕ) (x : DeclaratorTree) → Deeper (reading.finished word d names from x) (reading.finished word (suc d) names from x)
+  finished-deeper : (names : List ℕ) (from : ℕ) (x : DeclaratorTree) → Deeper (reading.finished word d names from x) (reading.finished word (suc d) names from x)
   finished-deeper names from x = deeper_bind (assigned-deeper (behind word x names) d) (λ i. deeper_same)
 
-  init_declarator_from-deeper : (names : List (List ℕ)) (h : Option Token) → Deeper (reading.init_declarator_from word d names h) (reading.init_declarator_from word (suc d) names h)
+  init_declarator_from-deeper : (names : List ℕ) (h : Option Token) → Deeper (reading.init_declarator_from word d names h) (reading.init_declarator_from word (suc d) names h)
   init_declarator_from-deeper names h = deeper_bind ((parsers-deeper names d).declarator naming.Named) (finished-deeper names (from_of h))
 
-  init_declarator-deeper : (names : List (List ℕ)) → Deeper (reading.init_declarator word d names) (reading.init_declarator word (suc d) names)
+  init_declarator-deeper : (names : List ℕ) → Deeper (reading.init_declarator word d names) (reading.init_declarator word (suc d) names)
   unfolding reading.init_declarator
   init_declarator-deeper names = deeper_look (init_declarator_from-deeper names)
 
-  declared_at-deeper : (names : List (List ℕ)) (items : List InitDeclaratorTree) (h : Option Token) → Deeper (reading.declared_at word d names items h) (reading.declared_at word (suc d) names items h)
+  declared_at-deeper : (names : List ℕ) (items : List InitDeclaratorTree) (h : Option Token) → Deeper (reading.declared_at word d names items h) (reading.declared_at word (suc d) names items h)
   declared_at-deeper names items h = deeper_if (sees p.Comma h) (deeper_then deeper_same (deeper_bind (init_declarator-deeper (behind_all word items names)) (λ x. deeper_same))) deeper_same
 
-  declared-deeper : (names : List (List ℕ)) (items : List InitDeclaratorTree) → Deeper (reading.declared word d names items) (reading.declared word (suc d) names items)
+  declared-deeper : (names : List ℕ) (items : List InitDeclaratorTree) → Deeper (reading.declared word d names items) (reading.declared word (suc d) names items)
   declared-deeper names items = iterate-deeper (λ xs. deeper_look (declared_at-deeper names xs)) items
 
-module _ (names : List (List ℕ)) where
+module _ (names : List ℕ) where
   block_declaration_from-deeper : (d : ℕ) (h : Option Token) → Deeper (reading.block_declaration_from names d h) (reading.block_declaration_from names (suc d) h)
   block_declaration_from-deeper d h = deeper_then (deeper_needs 1 d) (deeper_bind ((parsers-deeper names d).specs false) (λ s. deeper_bind (init_declarator-deeper None d names) (λ x. deeper_bind (declared-deeper None d names (x ∷ [])) (λ xs. deeper_same))))
 
@@ -233,29 +233,29 @@ module _ (d : ℕ) where
   typedef_same (Some storage.Static) = refl
   typedef_same (Some storage.Extern) = refl
 
-  body_at-deeper : (names : List (List ℕ)) (word : Option Storage) (s : SpecsTree) (from begins : ℕ) (x : DeclaratorTree) (h : Option Token) → Deeper (reading.body_at d names word s from begins x h) (reading.body_at (suc d) names word s from begins x h)
+  body_at-deeper : (names : List ℕ) (word : Option Storage) (s : SpecsTree) (from begins : ℕ) (x : DeclaratorTree) (h : Option Token) → Deeper (reading.body_at d names word s from begins x h) (reading.body_at (suc d) names word s from begins x h)
   body_at-deeper names word s from begins x h = rw (typedef_same word) (deeper_if (not (reading.is_typedef d word) && sees p.LeftBrace h) (deeper_bind (stmt-deeper names d) (λ b. deeper_same))
       (deeper_bind (finished-deeper word d names begins x) (λ i. deeper_bind (declared-deeper word d names (i ∷ [])) (λ xs. deeper_same))))
 
-  declarators_at-deeper : (names : List (List ℕ)) (word : Option Storage) (s : SpecsTree) (from : ℕ) (h : Option Token) → Deeper (reading.declarators_at d names word s from h) (reading.declarators_at (suc d) names word s from h)
+  declarators_at-deeper : (names : List ℕ) (word : Option Storage) (s : SpecsTree) (from : ℕ) (h : Option Token) → Deeper (reading.declarators_at d names word s from h) (reading.declarators_at (suc d) names word s from h)
   declarators_at-deeper names word s from h = deeper_if (sees p.Semicolon h) deeper_same (deeper_bind ((parsers-deeper names d).declarator naming.Named) (λ x. deeper_look (body_at-deeper names word s from (from_of h) x)))
 
-  external-deeper : (names : List (List ℕ)) (from : ℕ) → Deeper (reading.external d names from) (reading.external (suc d) names from)
+  external-deeper : (names : List ℕ) (from : ℕ) → Deeper (reading.external d names from) (reading.external (suc d) names from)
   external-deeper names from = deeper_bind (deeper_look stored_at-deeper) (λ word. deeper_bind ((parsers-deeper names d).specs true) (λ s. deeper_look (declarators_at-deeper names word s from)))
 
-  file_item_by-deeper : (names : List (List ℕ)) (t : Token) (k : Kind) → Deeper (reading.file_item_by d names t k) (reading.file_item_by (suc d) names t k)
+  file_item_by-deeper : (names : List ℕ) (t : Token) (k : Kind) → Deeper (reading.file_item_by d names t k) (reading.file_item_by (suc d) names t k)
   file_item_by-deeper names t (kind.Include x) = deeper_same
   file_item_by-deeper names t k = external-deeper names t.from
 
-  file_item_at-deeper : (names : List (List ℕ)) (h : Option Token) → Deeper (reading.file_item_at d names h) (reading.file_item_at (suc d) names h)
+  file_item_at-deeper : (names : List ℕ) (h : Option Token) → Deeper (reading.file_item_at d names h) (reading.file_item_at (suc d) names h)
   file_item_at-deeper names None = deeper_same
   file_item_at-deeper names (Some t) = file_item_by-deeper names t t.kind
 
-  file_item-deeper : (names : List (List ℕ)) → Deeper (reading.file_item d names) (reading.file_item (suc d) names)
+  file_item-deeper : (names : List ℕ) → Deeper (reading.file_item d names) (reading.file_item (suc d) names)
   unfolding reading.file_item
   file_item-deeper names = deeper_look (file_item_at-deeper names)
 
-  names_same : (items : FileTree) (names : List (List ℕ)) → reading.names_behind (suc d) items names ≡ reading.names_behind d items names
+  names_same : (items : FileTree) (names : List ℕ) → reading.names_behind (suc d) items names ≡ reading.names_behind d items names
   names_same [] names = refl
   names_same (x ∷ xs) names = names_same xs (behind_item x names)
 

@@ -30,7 +30,7 @@ word_at-local x (Some t) = local_if (is_word x t.kind) (local_after t) (local_re
 pub word-local : (x : Keyword) → Local (reading.word x)
 word-local x = local_look (word_at-local x)
 
-module _ (names : List (List ℕ)) where
+module _ (names : List ℕ) where
   item_behind-local : (item : Parser InitializerTree) → Local item → (items : List InitializerTree) (h : Option Token) → Local (reading.item_behind names item items h)
   item_behind-local item g items h = local_if (sees p.RightBrace h) (local_pure _) (local_bind g (λ x. local_pure _))
 
@@ -72,30 +72,30 @@ module _ (names : List (List ℕ)) where
   assigned-local d = local_look (assigned_at-local d)
 
 module _ (storage : Option Storage) (d : ℕ) where
-  pub finished-local : (names : List (List ℕ)) (from : ℕ) (x : DeclaratorTree) → Local (reading.finished storage d names from x)
+  pub finished-local : (names : List ℕ) (from : ℕ) (x : DeclaratorTree) → Local (reading.finished storage d names from x)
   finished-local names from x = local_bind (assigned-local (behind storage x names) d) (λ i. local_bind local_ended (λ z. local_pure _))
 
-  init_declarator_from-local : (names : List (List ℕ)) (h : Option Token) → Local (reading.init_declarator_from storage d names h)
+  init_declarator_from-local : (names : List ℕ) (h : Option Token) → Local (reading.init_declarator_from storage d names h)
   init_declarator_from-local names h = local_bind ((parsers-local names d).declarator naming.Named) (finished-local names (from_of h))
 
-  pub init_declarator-local : (names : List (List ℕ)) → Local (reading.init_declarator storage d names)
+  pub init_declarator-local : (names : List ℕ) → Local (reading.init_declarator storage d names)
   unfolding reading.init_declarator
   init_declarator-local names = local_look (init_declarator_from-local names)
 
-  declared_at-local : (names : List (List ℕ)) (items : List InitDeclaratorTree) (h : Option Token) → Local (reading.declared_at storage d names items h)
+  declared_at-local : (names : List ℕ) (items : List InitDeclaratorTree) (h : Option Token) → Local (reading.declared_at storage d names items h)
   declared_at-local names items h = local_if (sees p.Comma h) (local_then (mark-local p.Comma) (local_bind (init_declarator-local (behind_all storage items names)) (λ x. local_pure _))) (local_pure _)
 
-  declared_at-fewer : (names : List (List ℕ)) (items : List InitDeclaratorTree) (c : Cursor) (h : Option Token) → Meets (reading.declared_at storage d names items h) c (Shorter (reading.declared_step storage d names) c)
+  declared_at-fewer : (names : List ℕ) (items : List InitDeclaratorTree) (c : Cursor) (h : Option Token) → Meets (reading.declared_at storage d names items h) c (Shorter (reading.declared_step storage d names) c)
   declared_at-fewer names items c h = meets_if (sees p.Comma h) (λ q. meets_then {q = reading.init_declarator storage d (behind_all storage items names) >>= (λ x. pure (More (items ++ x ∷ [])))} ((eats_mark p.Comma).holds c)
       (λ _ m l. meets_bind (local_no_more (init_declarator-local (behind_all storage items names)) m) (λ x o k. record { holds = omega (arith, l, k) }))) (λ q. record { holds = tt })
 
-  pub declared-shrinks : (names : List (List ℕ)) → Shrinks (reading.declared_step storage d names)
+  pub declared-shrinks : (names : List ℕ) → Shrinks (reading.declared_step storage d names)
   declared-shrinks names = record { holds = λ items c. meets_look (λ h e. declared_at-fewer names items c h) }
 
-  pub declared-local : (names : List (List ℕ)) (items : List InitDeclaratorTree) → Local (reading.declared storage d names items)
+  pub declared-local : (names : List ℕ) (items : List InitDeclaratorTree) → Local (reading.declared storage d names items)
   declared-local names items = local_iterate (reading.declared_step storage d names) (declared-shrinks names) (λ xs. local_look (declared_at-local names xs)) items
 
-module _ (names : List (List ℕ)) where
+module _ (names : List ℕ) where
   block_declaration_from-local : (d : ℕ) (h : Option Token) → Local (reading.block_declaration_from names d h)
   block_declaration_from-local d h = local_then (needs-local 1 d) (local_bind ((parsers-local names d).specs false) (λ s. local_bind (init_declarator-local None d names) (λ x. local_bind (declared-local None d names (x ∷ [])) (λ xs. local_then (mark-local p.Semicolon) (local_bind local_ended (λ z. local_pure _))))))
 
@@ -251,53 +251,53 @@ module _ (d : ℕ) where
   ends-eats : (word : Option Storage) (s : SpecsTree) (xs : List InitDeclaratorTree) (from : ℕ) → Eats (reading.ends_declaration d word s xs from)
   ends-eats word s xs from = eats_left (eats_mark p.Semicolon) (λ _. local_bind local_ended (λ z. local_pure _))
 
-  body_at-local : (names : List (List ℕ)) (word : Option Storage) (s : SpecsTree) (from begins : ℕ) (x : DeclaratorTree) (h : Option Token) → Local (reading.body_at d names word s from begins x h)
+  body_at-local : (names : List ℕ) (word : Option Storage) (s : SpecsTree) (from begins : ℕ) (x : DeclaratorTree) (h : Option Token) → Local (reading.body_at d names word s from begins x h)
   body_at-local names word s from begins x h = local_if (not (reading.is_typedef d word) && sees p.LeftBrace h) (local_bind (stmt-local names d) (λ b. local_bind local_ended (λ z. local_pure _)))
       (local_bind (finished-local word d names begins x) (λ i. local_bind (declared-local word d names (i ∷ [])) (λ xs. ends-local word s xs from)))
 
-  body_at-fewer : (names : List (List ℕ)) (word : Option Storage) (s : SpecsTree) (from begins : ℕ) (x : DeclaratorTree) (c : Cursor) (h : Option Token) → Meets (reading.body_at d names word s from begins x h) c (Fewer c)
+  body_at-fewer : (names : List ℕ) (word : Option Storage) (s : SpecsTree) (from begins : ℕ) (x : DeclaratorTree) (c : Cursor) (h : Option Token) → Meets (reading.body_at d names word s from begins x h) c (Fewer c)
   body_at-fewer names word s from begins x c h = meets_if (not (reading.is_typedef d word) && sees p.LeftBrace h) (λ q. (eats_left (stmt-eats names d) (λ b. local_bind local_ended (λ z. local_pure (Defined (OfFunctionDefinition word s x b from z) from z)))).holds c)
       (λ q. (eats_right (finished-local word d names begins x) (λ i. eats_right (declared-local word d names (i ∷ [])) (λ xs. ends-eats word s xs from))).holds c)
 
-  body_at-eats : (names : List (List ℕ)) (word : Option Storage) (s : SpecsTree) (from begins : ℕ) (x : DeclaratorTree) (h : Option Token) → Eats (reading.body_at d names word s from begins x h)
+  body_at-eats : (names : List ℕ) (word : Option Storage) (s : SpecsTree) (from begins : ℕ) (x : DeclaratorTree) (h : Option Token) → Eats (reading.body_at d names word s from begins x h)
   body_at-eats names word s from begins x h = record { holds = λ c. body_at-fewer names word s from begins x c h }
 
-  declarators_at-local : (names : List (List ℕ)) (word : Option Storage) (s : SpecsTree) (from : ℕ) (h : Option Token) → Local (reading.declarators_at d names word s from h)
+  declarators_at-local : (names : List ℕ) (word : Option Storage) (s : SpecsTree) (from : ℕ) (h : Option Token) → Local (reading.declarators_at d names word s from h)
   declarators_at-local names word s from h = local_if (sees p.Semicolon h) (ends-local word s [] from) (local_bind ((parsers-local names d).declarator naming.Named) (λ x. local_look (body_at-local names word s from (from_of h) x)))
 
-  declarators_at-fewer : (names : List (List ℕ)) (word : Option Storage) (s : SpecsTree) (from : ℕ) (c : Cursor) (h : Option Token) → Meets (reading.declarators_at d names word s from h) c (Fewer c)
+  declarators_at-fewer : (names : List ℕ) (word : Option Storage) (s : SpecsTree) (from : ℕ) (c : Cursor) (h : Option Token) → Meets (reading.declarators_at d names word s from h) c (Fewer c)
   declarators_at-fewer names word s from c h = meets_if (sees p.Semicolon h) (λ q. (ends-eats word s [] from).holds c) (λ q. (eats_right ((parsers-local names d).declarator naming.Named) (λ x. eats_look (body_at-eats names word s from (from_of h) x))).holds c)
 
-  declarators_at-eats : (names : List (List ℕ)) (word : Option Storage) (s : SpecsTree) (from : ℕ) (h : Option Token) → Eats (reading.declarators_at d names word s from h)
+  declarators_at-eats : (names : List ℕ) (word : Option Storage) (s : SpecsTree) (from : ℕ) (h : Option Token) → Eats (reading.declarators_at d names word s from h)
   declarators_at-eats names word s from h = record { holds = λ c. declarators_at-fewer names word s from c h }
 
-  external-local : (names : List (List ℕ)) (from : ℕ) → Local (reading.external d names from)
+  external-local : (names : List ℕ) (from : ℕ) → Local (reading.external d names from)
   external-local names from = local_bind (local_look stored_at-local) (λ word. local_bind ((parsers-local names d).specs true) (λ s. local_look (declarators_at-local names word s from)))
 
-  external-eats : (names : List (List ℕ)) (from : ℕ) → Eats (reading.external d names from)
+  external-eats : (names : List ℕ) (from : ℕ) → Eats (reading.external d names from)
   external-eats names from = eats_right (local_look stored_at-local) (λ word. eats_right ((parsers-local names d).specs true) (λ s. eats_look (declarators_at-eats names word s from)))
 
-  file_item_by-local : (names : List (List ℕ)) (t : Token) (k : Kind) → Local (reading.file_item_by d names t k)
+  file_item_by-local : (names : List ℕ) (t : Token) (k : Kind) → Local (reading.file_item_by d names t k)
   file_item_by-local names t (kind.Include x) = local_then (local_after t) (local_pure _)
   file_item_by-local names t k = external-local names t.from
 
-  file_item_at-local : (names : List (List ℕ)) (h : Option Token) → Local (reading.file_item_at d names h)
+  file_item_at-local : (names : List ℕ) (h : Option Token) → Local (reading.file_item_at d names h)
   file_item_at-local names None = local_refuse S1
   file_item_at-local names (Some t) = file_item_by-local names t t.kind
 
-  pub file_item-local : (names : List (List ℕ)) → Local (reading.file_item d names)
+  pub file_item-local : (names : List ℕ) → Local (reading.file_item d names)
   unfolding reading.file_item
   file_item-local names = local_look (file_item_at-local names)
 
-  file_item_by-fewer : (names : List (List ℕ)) (t : Token) (c : Cursor) → Some t ≡ head c.ahead → (k : Kind) → Meets (reading.file_item_by d names t k) c (Fewer c)
+  file_item_by-fewer : (names : List ℕ) (t : Token) (c : Cursor) → Some t ≡ head c.ahead → (k : Kind) → Meets (reading.file_item_by d names t k) c (Fewer c)
   file_item_by-fewer names t c q (kind.Include x) = meets_then {q = pure (Included x t.from t.to)} (meets_after_fewer t c q) (λ _ m l. record { holds = l })
   file_item_by-fewer names t c q k = (external-eats names t.from).holds c
 
-  file_item_at-fewer : (names : List (List ℕ)) (c : Cursor) (h : Option Token) → h ≡ head c.ahead → Meets (reading.file_item_at d names h) c (Fewer c)
+  file_item_at-fewer : (names : List ℕ) (c : Cursor) (h : Option Token) → h ≡ head c.ahead → Meets (reading.file_item_at d names h) c (Fewer c)
   file_item_at-fewer names c None q = meets_refuse
   file_item_at-fewer names c (Some t) q = file_item_by-fewer names t c q t.kind
 
-  pub file_item-eats : (names : List (List ℕ)) → Eats (reading.file_item d names)
+  pub file_item-eats : (names : List ℕ) → Eats (reading.file_item d names)
   unfolding reading.file_item
   file_item-eats names = record { holds = λ c. meets_look (λ h q. file_item_at-fewer names c h q) }
 

@@ -41,7 +41,7 @@ not_true : (x : Bool) → not x ≡ true → x ≡ false
 not_true true e = cc
 not_true false e = refl
 
-module _ (names : List (List ℕ)) where
+module _ (names : List ℕ) where
   abbrev IsInitializer : ℕ → InitializerTree → Cursor → Cursor → Type 0
   IsInitializer d i c e = InitializerSpells names i c e × (initializer_height i ≤ d)
 
@@ -99,27 +99,27 @@ module _ (names : List (List ℕ)) where
   meets_assigned d c = meets_look (λ h _. assigned_head d c h)
 
 module _ (word : Option Storage) (d : ℕ) where
-  abbrev IsInit : List (List ℕ) → InitDeclaratorTree → Cursor → Cursor → Type 0
+  abbrev IsInit : List ℕ → InitDeclaratorTree → Cursor → Cursor → Type 0
   IsInit names x c e = InitDeclaratorSpells word names x c e × (init_declarator_height x ≤ d)
 
-  meets_finished : (names : List (List ℕ)) (x : DeclaratorTree) (c m : Cursor) → has_name x ≡ true → DeclaratorSpells names 0 x c m → declarator_height x ≤ d → Meets (reading.finished word d names (begin c) x) m (λ i e. IsInit names i c e)
+  meets_finished : (names : List ℕ) (x : DeclaratorTree) (c m : Cursor) → has_name x ≡ true → DeclaratorSpells names 0 x c m → declarator_height x ≤ d → Meets (reading.finished word d names (begin c) x) m (λ i e. IsInit names i c e)
   meets_finished names x c m n h l = meets_bind (meets_assigned (behind word x names) d m) (λ i e r. record { holds = ((m, n, h, r.0, record { from_is = refl; to_is = refl }), (let b = r.1 in omega (arith, l, b))) })
 
-  init_head : (names : List (List ℕ)) (c : Cursor) (h : Option Token) → h ≡ head c.ahead → Meets (reading.init_declarator_from word d names h) c (λ i e. IsInit names i c e)
+  init_head : (names : List ℕ) (c : Cursor) (h : Option Token) → h ≡ head c.ahead → Meets (reading.init_declarator_from word d names h) c (λ i e. IsInit names i c e)
   init_head names c h q = rw q (meets_bind ((sound names d).declarator naming.Named c) (λ x m (n, u, l). meets_finished names x c m n u l))
 
-  meets_init : (names : List (List ℕ)) (c : Cursor) → Meets (reading.init_declarator word d names) c (λ i e. IsInit names i c e)
+  meets_init : (names : List ℕ) (c : Cursor) → Meets (reading.init_declarator word d names) c (λ i e. IsInit names i c e)
   unfolding reading.init_declarator
   meets_init names c = meets_look (λ h q. init_head names c h q)
 
   -- further declarators behind some
-  record Further (names : List (List ℕ)) (before : List InitDeclaratorTree) (c : Cursor) (all : List InitDeclaratorTree) (e : Cursor) : Type 0 where
+  record Further (names : List ℕ) (before : List InitDeclaratorTree) (c : Cursor) (all : List InitDeclaratorTree) (e : Cursor) : Type 0 where
     items : List InitDeclaratorTree
     all_is : all ≡ before ++ items
     spells : CommaInitDeclarators word (behind_all word before names) items c e
     fits : init_declarators_height items ≤ d
 
-  comma_snoc : (names : List (List ℕ)) (xs : List InitDeclaratorTree) (x : InitDeclaratorTree) (c m n e : Cursor) → CommaInitDeclarators word names xs c m → Mark p.Comma m n → InitDeclaratorSpells word (behind_all word xs names) x n e → CommaInitDeclarators word names (xs ++ x ∷ []) c e
+  comma_snoc : (names : List ℕ) (xs : List InitDeclaratorTree) (x : InitDeclaratorTree) (c m n e : Cursor) → CommaInitDeclarators word names xs c m → Mark p.Comma m n → InitDeclaratorSpells word (behind_all word xs names) x n e → CommaInitDeclarators word names (xs ++ x ∷ []) c e
   comma_snoc names [] x c m n e h k s = (n, e, rw h k, s, refl)
   comma_snoc names (OfInitDeclarator y i a z ∷ ys) x c m n e (u, v, b, t, h) k s = (u, v, b, t, comma_snoc (behind_all word (OfInitDeclarator y i a z ∷ []) names) ys x v m n e h k s)
 
@@ -127,11 +127,11 @@ module _ (word : Option Storage) (d : ℕ) where
   heights_snoc [] x l k = omega (arith, k)
   heights_snoc (y ∷ ys) x l k = let r = heights_snoc ys x (omega (arith, l)) k in omega (arith, l, r)
 
-  behind_both : (xs ys : List InitDeclaratorTree) (names : List (List ℕ)) → behind_all word (xs ++ ys) names ≡ behind_all word ys (behind_all word xs names)
+  behind_both : (xs ys : List InitDeclaratorTree) (names : List ℕ) → behind_all word (xs ++ ys) names ≡ behind_all word ys (behind_all word xs names)
   behind_both [] ys names = refl
   behind_both (OfInitDeclarator y i a z ∷ xs) ys names = behind_both xs ys (behind word y names)
 
-  further_more : (names : List (List ℕ)) (before : List InitDeclaratorTree) (c : Cursor) (all : List InitDeclaratorTree) (x : InitDeclaratorTree) (m n e : Cursor) → Further names before c all m → Mark p.Comma m n → IsInit (behind_all word all names) x n e → Further names before c (all ++ x ∷ []) e
+  further_more : (names : List ℕ) (before : List InitDeclaratorTree) (c : Cursor) (all : List InitDeclaratorTree) (x : InitDeclaratorTree) (m n e : Cursor) → Further names before c all m → Mark p.Comma m n → IsInit (behind_all word all names) x n e → Further names before c (all ++ x ∷ []) e
   further_more names before c all x m n e f k (s, l) = record {
     items = f.items ++ x ∷ [];
     all_is = ap (λ y. y ++ x ∷ []) f.all_is ∙ append_assoc before f.items (x ∷ []);
@@ -139,16 +139,16 @@ module _ (word : Option Storage) (d : ℕ) where
     fits = heights_snoc f.items x f.fits l;
   }
 
-  declared_head : (names : List (List ℕ)) (before : List InitDeclaratorTree) (c : Cursor) (all : List InitDeclaratorTree) (m : Cursor) (h : Option Token) → Further names before c all m → Meets (reading.declared_at word d names all h) m (After (reading.declared_step word d names) (Further names before c) (Further names before c))
+  declared_head : (names : List ℕ) (before : List InitDeclaratorTree) (c : Cursor) (all : List InitDeclaratorTree) (m : Cursor) (h : Option Token) → Further names before c all m → Meets (reading.declared_at word d names all h) m (After (reading.declared_step word d names) (Further names before c) (Further names before c))
   declared_head names before c all m h f = meets_if (sees p.Comma h)
       (λ _. meets_then {q = reading.init_declarator word d (behind_all word all names) >>= (λ x. pure (More (all ++ x ∷ [])))} (meets_mark p.Comma m) (λ _ n k. meets_bind {f = λ x. pure (More (all ++ x ∷ []))} (meets_init (behind_all word all names) n) (λ x e r. record { holds = further_more names before c all x m n e f k r })))
       (λ _. record { holds = f })
 
-  meets_declared : (names : List (List ℕ)) (before : List InitDeclaratorTree) (c : Cursor) → Meets (reading.declared word d names before) c (Further names before c)
+  meets_declared : (names : List ℕ) (before : List InitDeclaratorTree) (c : Cursor) → Meets (reading.declared word d names before) c (Further names before c)
   meets_declared names before c = meets_iterate (reading.declared_step word d names) (Further names before c) (Further names before c) (λ all m f. meets_look (λ h _. declared_head names before c all m h f)) before c
       (record { items = []; all_is = sym (append-nil before); spells = refl; fits = omega arith })
 
-module _ (names : List (List ℕ)) where
+module _ (names : List ℕ) where
   abbrev IsBlock : ℕ → Cursor → BlockDeclarationTree → Cursor → Type 0
   IsBlock d c b e = BlockDeclarationSpells names b c e × (block_declaration_height b ≤ d)
 
@@ -335,7 +335,7 @@ module _ (d : ℕ) where
   typedef_no (Some storage.Static) q h = cc
   typedef_no (Some storage.Extern) q h = cc
 
-  module _ (names : List (List ℕ)) where
+  module _ (names : List ℕ) where
     abbrev IsFileItem : Cursor → FileItemTree → Cursor → Type 0
     IsFileItem c x e = FileItemSpells names x c e × (file_item_height x ≤ d)
 
@@ -388,7 +388,7 @@ module _ (d : ℕ) where
     unfolding reading.file_item
     meets_file_item c = meets_look (λ h e. file_item_head h c e)
 
-  items_snoc : (names : List (List ℕ)) (xs : FileTree) (x : FileItemTree) (c m e : Cursor) → FileItemsSpell names xs c m → FileItemSpells (reading.names_behind d xs names) x m e → FileItemsSpell names (xs ++ x ∷ []) c e
+  items_snoc : (names : List ℕ) (xs : FileTree) (x : FileItemTree) (c m e : Cursor) → FileItemsSpell names xs c m → FileItemSpells (reading.names_behind d xs names) x m e → FileItemsSpell names (xs ++ x ∷ []) c e
   items_snoc names [] x c m e h s = (e, rw h s, refl)
   items_snoc names (y ∷ ys) x c m e (n, t, h) s = (n, t, items_snoc (behind_item y names) ys x n m e h s)
 

@@ -1,4 +1,6 @@
 pub mod Answers
+pub mod Loops
 pub mod Nests
 pub mod Parsed
 pub mod Reading
+pub mod Rules

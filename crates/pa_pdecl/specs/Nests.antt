@@ -10,14 +10,14 @@ use Rattle.pa_reading.specs.declared.rule.ParseError.{ParseError}
 use Rattle.pa_reading.specs.Reads.{Reads}
 use Rattle.pa_pdecl.specs.Reading as reading
 
-pub record NestsInitializer (d : ℕ) (pre : Global → Bor (List (List ℕ)) → MutBor Cursor → ℕ → Type 0)
-    (post : Global → Bor (List (List ℕ)) → MutBor Cursor → ℕ → Result Initializer ParseError → MutBor Cursor → Type 0) : Type 0 where
-  pub callable : (alloc : Global) (names : Bor (List (List ℕ))) (old : MutBor Cursor) → pre alloc names old d
-  pub reads : (alloc : Global) (names : Bor (List (List ℕ))) (old new : MutBor Cursor) (r : Result Initializer ParseError) → post alloc names old d r new
+pub record NestsInitializer (d : ℕ) (pre : Global → Bor (List ℕ) → MutBor Cursor → ℕ → Type 0)
+    (post : Global → Bor (List ℕ) → MutBor Cursor → ℕ → Result Initializer ParseError → MutBor Cursor → Type 0) : Type 0 where
+  pub callable : (alloc : Global) (names : Bor (List ℕ)) (old : MutBor Cursor) → pre alloc names old d
+  pub reads : (alloc : Global) (names : Bor (List ℕ)) (old new : MutBor Cursor) (r : Result Initializer ParseError) → post alloc names old d r new
       → Reads initializer_tree (reading.initializer names.now d old.now) r new.now
 
-pub record NestsStmt (d : ℕ) (pre : Global → Bor (List (List ℕ)) → MutBor Cursor → ℕ → Type 0)
-    (post : Global → Bor (List (List ℕ)) → MutBor Cursor → ℕ → Result Stmt ParseError → MutBor Cursor → Type 0) : Type 0 where
-  pub callable : (alloc : Global) (names : Bor (List (List ℕ))) (old : MutBor Cursor) → pre alloc names old d
-  pub reads : (alloc : Global) (names : Bor (List (List ℕ))) (old new : MutBor Cursor) (r : Result Stmt ParseError) → post alloc names old d r new
+pub record NestsStmt (d : ℕ) (pre : Global → Bor (List ℕ) → MutBor Cursor → ℕ → Type 0)
+    (post : Global → Bor (List ℕ) → MutBor Cursor → ℕ → Result Stmt ParseError → MutBor Cursor → Type 0) : Type 0 where
+  pub callable : (alloc : Global) (names : Bor (List ℕ)) (old : MutBor Cursor) → pre alloc names old d
+  pub reads : (alloc : Global) (names : Bor (List ℕ)) (old new : MutBor Cursor) (r : Result Stmt ParseError) → post alloc names old d r new
       → Reads stmt_tree (reading.stmt names.now d old.now) r new.now

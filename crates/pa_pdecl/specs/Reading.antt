@@ -32,7 +32,7 @@ word_at x (Some t) = if is_word x t.kind then after t else refuse S1
 abbrev pub word : Keyword → Parser (Unit {0})
 word x = look (word_at x)
 
-module _ (names : List (List ℕ)) where
+module _ (names : List ℕ) where
   abbrev pub item_behind : Parser InitializerTree → List InitializerTree → Option Token → Parser (Next (List InitializerTree) (List InitializerTree))
   item_behind item items h = if sees p.RightBrace h then pure (Done items) else (item >>= (λ x. pure (More (items ++ x ∷ []))))
 
@@ -67,30 +67,30 @@ module _ (names : List (List ℕ)) where
 
 module _ (storage : Option Storage) (d : ℕ) where
   -- the rest of a declarator that was read from this place on
-  abbrev pub finished : List (List ℕ) → ℕ → DeclaratorTree → Parser InitDeclaratorTree
+  abbrev pub finished : List ℕ → ℕ → DeclaratorTree → Parser InitDeclaratorTree
   finished names from x = assigned (behind storage x names) d >>= (λ i. ended >>= (λ z. pure (OfInitDeclarator x i from z)))
 
-  abbrev pub init_declarator_from : List (List ℕ) → Option Token → Parser InitDeclaratorTree
+  abbrev pub init_declarator_from : List ℕ → Option Token → Parser InitDeclaratorTree
   init_declarator_from names h = (parsers names d).declarator naming.Named >>= finished names (from_of h)
 
-  unfoldable pub init_declarator : List (List ℕ) → Parser InitDeclaratorTree
+  unfoldable pub init_declarator : List ℕ → Parser InitDeclaratorTree
   init_declarator names = look (init_declarator_from names)
 
-  abbrev pub declared_at : List (List ℕ) → List InitDeclaratorTree → Option Token → Parser (Next (List InitDeclaratorTree) (List InitDeclaratorTree))
+  abbrev pub declared_at : List ℕ → List InitDeclaratorTree → Option Token → Parser (Next (List InitDeclaratorTree) (List InitDeclaratorTree))
   declared_at names items h = if sees p.Comma h then (mark p.Comma >> init_declarator (behind_all storage items names) >>= (λ x. pure (More (items ++ x ∷ [])))) else pure (Done items)
 
-  abbrev pub declared_step : List (List ℕ) → List InitDeclaratorTree → Parser (Next (List InitDeclaratorTree) (List InitDeclaratorTree))
+  abbrev pub declared_step : List ℕ → List InitDeclaratorTree → Parser (Next (List InitDeclaratorTree) (List InitDeclaratorTree))
   declared_step names items = look (declared_at names items)
 
   -- further declarators
-  abbrev pub declared : List (List ℕ) → List InitDeclaratorTree → Parser (List InitDeclaratorTree)
+  abbrev pub declared : List ℕ → List InitDeclaratorTree → Parser (List InitDeclaratorTree)
   declared names items = iterate (declared_step names) items
 
   -- the rest of a declarator that was read from this place on, and further ones
-  abbrev pub all_declared : List (List ℕ) → ℕ → DeclaratorTree → Parser (List InitDeclaratorTree)
+  abbrev pub all_declared : List ℕ → ℕ → DeclaratorTree → Parser (List InitDeclaratorTree)
   all_declared names from x = finished names from x >>= (λ i. declared names (i ∷ []))
 
-module _ (names : List (List ℕ)) where
+module _ (names : List ℕ) where
   abbrev pub block_declaration_from : ℕ → Option Token → Parser BlockDeclarationTree
   block_declaration_from d h = needs 1 d >> (parsers names d).specs false >>= (λ s. init_declarator None d names >>= (λ x. declared None d names (x ∷ []) >>= (λ xs. mark p.Semicolon >> ended >>= (λ z. pure (OfBlockDeclaration s xs (from_of h) z)))))
 
@@ -216,33 +216,33 @@ module _ (d : ℕ) where
   ends_declaration word s xs from = mark p.Semicolon >> ended >>= (λ z. pure (Declared (OfDeclaration word s xs from z) from z))
 
   -- the body of a function
-  abbrev pub defines : List (List ℕ) → Option Storage → SpecsTree → ℕ → DeclaratorTree → Parser FileItemTree
+  abbrev pub defines : List ℕ → Option Storage → SpecsTree → ℕ → DeclaratorTree → Parser FileItemTree
   defines names word s from x = stmt names d >>= (λ b. ended >>= (λ z. pure (Defined (OfFunctionDefinition word s x b from z) from z)))
 
-  abbrev pub body_at : List (List ℕ) → Option Storage → SpecsTree → ℕ → ℕ → DeclaratorTree → Option Token → Parser FileItemTree
+  abbrev pub body_at : List ℕ → Option Storage → SpecsTree → ℕ → ℕ → DeclaratorTree → Option Token → Parser FileItemTree
   body_at names word s from begins x h = if not (is_typedef word) && sees p.LeftBrace h
       then (stmt names d >>= (λ b. ended >>= (λ z. pure (Defined (OfFunctionDefinition word s x b from z) from z))))
       else (finished word d names begins x >>= (λ i. declared word d names (i ∷ []) >>= (λ xs. ends_declaration word s xs from)))
 
-  abbrev pub declarators_at : List (List ℕ) → Option Storage → SpecsTree → ℕ → Option Token → Parser FileItemTree
+  abbrev pub declarators_at : List ℕ → Option Storage → SpecsTree → ℕ → Option Token → Parser FileItemTree
   declarators_at names word s from h = if sees p.Semicolon h then ends_declaration word s [] from
       else ((parsers names d).declarator naming.Named >>= (λ x. look (body_at names word s from (from_of h) x)))
 
-  abbrev pub external : List (List ℕ) → ℕ → Parser FileItemTree
+  abbrev pub external : List ℕ → ℕ → Parser FileItemTree
   external names from = stored >>= (λ word. (parsers names d).specs true >>= (λ s. look (declarators_at names word s from)))
 
-  abbrev pub file_item_by : List (List ℕ) → Token → Kind → Parser FileItemTree
+  abbrev pub file_item_by : List ℕ → Token → Kind → Parser FileItemTree
   file_item_by names t (kind.Include x) = after t >> pure (Included x t.from t.to)
   file_item_by names t k = external names t.from
 
-  abbrev pub file_item_at : List (List ℕ) → Option Token → Parser FileItemTree
+  abbrev pub file_item_at : List ℕ → Option Token → Parser FileItemTree
   file_item_at names None = refuse S1
   file_item_at names (Some t) = file_item_by names t t.kind
 
-  unfoldable pub file_item : List (List ℕ) → Parser FileItemTree
+  unfoldable pub file_item : List ℕ → Parser FileItemTree
   file_item names = look (file_item_at names)
 
-  abbrev pub names_behind : FileTree → List (List ℕ) → List (List ℕ)
+  abbrev pub names_behind : FileTree → List ℕ → List ℕ
   names_behind [] names = names
   names_behind (x ∷ xs) names = names_behind xs (behind_item x names)
 

@@ -1,10 +1,11 @@
 //! Declarations in a block (C11 6.7).
 
-ghost use Rattle.std.specs.Prelude.{◌≤◌, ◌∷◌, [], map, None};
+ghost use Rattle.std.specs.Prelude.{◌≤◌, None};
 ghost use Rattle.std.specs.Option.{option_map};
-ghost use Rattle.pa_tree.specs.Views.{initializer_tree, declarator_tree, init_declarator_tree, block_declaration_tree};
+ghost use Rattle.pa_tree.specs.Views.{initializer_tree, block_declaration_tree};
 ghost use Rattle.pa_reading.specs.Reads.{Reads};
 ghost use Rattle.pa_pdecl.specs.Reading as reading;
+ghost use Rattle.pa_pdecl.specs.Rules as rule;
 
 use crate::initializer::initializer;
 use pa_lex::Punct;
@@ -42,7 +43,7 @@ pub fn finished(
     declarator: Declarator,
 ) -> Result<InitDeclarator, ParseError>
     requires { depth ≤ 200 }
-    ensures { Reads init_declarator_tree (reading.finished None depth names.now from (declarator_tree declarator) r.old) result r.new }
+    ensures { rule.ReadsDeclarator (rule.finished None depth names.now from declarator r.old) result r.new }
 {
     let initializer = assigned(alloc, names, r, depth)?;
     Ok(InitDeclarator {
@@ -62,10 +63,10 @@ fn init_declarator(
     depth: u32,
 ) -> Result<InitDeclarator, ParseError>
     requires { depth ≤ 200 }
-    ensures { Reads init_declarator_tree (reading.init_declarator None depth names.now r.old) result r.new }
+    ensures { rule.ReadsDeclarator (rule.init_declarator None depth names.now r.old) result r.new }
 {
     let from = r.begin();
-    let (declarator, _height) = read_declarator(alloc, names, r, depth, Naming::Named)?;
+    let declarator = read_declarator(alloc, names, r, depth, Naming::Named)?.tree;
     finished(alloc, names, r, depth, from, declarator)
 }
 
@@ -79,7 +80,7 @@ fn more_declarators(
     first: InitDeclarator,
 ) -> Result<Items<InitDeclarator>, ParseError>
     requires { depth ≤ 200 }
-    ensures { Reads (λ q. map init_declarator_tree q) (reading.declared None depth names.now (init_declarator_tree first ∷ []) r.old) result r.new }
+    ensures { rule.ReadsDeclarators (rule.more_declared None depth names.now first r.old) result r.new }
 {
     let mut items = Items::new(alloc);
     items.push(first)?;
@@ -106,7 +107,7 @@ pub fn block_declaration(
 {
     let from = r.begin();
     needs(1, depth)?;
-    let (specs, _height) = read_specs(alloc, names, r, depth, false)?;
+    let specs = read_specs(alloc, names, r, depth, false)?.tree;
     let first = init_declarator(alloc, names, r, depth)?;
     let declarators = more_declarators(alloc, names, r, depth, first)?;
     r.expect(Punct::Semicolon)?;

@@ -1,17 +1,17 @@
 //! Files: include lines, declarations and function definitions (C11 6.9).
 
-ghost use Rattle.std.specs.Prelude.{◌≡◌, ◌≤◌, ◌∷◌, ◌++◌, map, IfOk, OnOk, Ok};
+ghost use Rattle.std.specs.Prelude.{◌≡◌, ◌≤◌, ◌∷◌, ◌++◌, map, OnOk, Ok};
 ghost use Rattle.pa_tree.specs.Cursors as cursors;
-ghost use Rattle.pa_tree.specs.Files as grammar;
-ghost use Rattle.pa_tree.specs.Views.{specs_tree, declarator_tree, init_declarator_tree, file_item_tree};
-ghost use Rattle.pa_reading.specs.Parser as parser;
+ghost use Rattle.pa_lex.specs.Numbering.{stdint_numbers};
+ghost use Rattle.pa_tree.specs.Views.{file_item_tree};
 ghost use Rattle.pa_reading.specs.Reads.{Reads};
 ghost use Rattle.pa_pdecl.specs.Reading as reading;
+ghost use Rattle.pa_pdecl.specs.Rules as rule;
 
 use crate::statement::stmt;
 use crate::typedef::declarators;
-use pa_lex::{Include, Keyword, Kind, Punct, Token};
-use pa_num::{Memory, Name};
+use pa_lex::{Include, Keyword, Kind, Punct};
+use pa_num::Memory;
 use pa_pexpr::{read_declarator, read_specs};
 use pa_reading::{Naming, ParseError, Reader, SynRule, TypeNames};
 use pa_tree::{
@@ -50,7 +50,7 @@ fn close(
     front: Front,
     declarators: Items<InitDeclarator>,
 ) -> Result<FileItem, ParseError>
-    ensures { Reads file_item_tree (reading.ends_declaration depth front.storage (specs_tree front.specs) (map init_declarator_tree declarators) front.from r.old) result r.new }
+    ensures { Reads file_item_tree (rule.declaration_end depth front declarators r.old) result r.new }
 {
     r.expect(Punct::Semicolon)?;
     let to = r.ended();
@@ -78,7 +78,7 @@ fn define(
     declarator: Declarator,
 ) -> Result<FileItem, ParseError>
     requires { depth ≤ 200 }
-    ensures { Reads file_item_tree (reading.defines depth names.now front.storage (specs_tree front.specs) front.from (declarator_tree declarator) r.old) result r.new }
+    ensures { Reads file_item_tree (rule.function_body depth names.now front declarator r.old) result r.new }
 {
     let body = stmt(alloc, names, r, depth)?;
     let to = r.ended();
@@ -109,8 +109,8 @@ fn declared(
     declarator: Declarator,
 ) -> Result<FileItem, ParseError>
     requires { depth ≤ 200 }
-    ensures value { Reads file_item_tree (parser.look (reading.body_at depth names.old front.storage (specs_tree front.specs) front.from from (declarator_tree declarator)) r.old) result r.new }
-    ensures names { IfOk result (λ x. names.new ≡ grammar.behind_item (file_item_tree x) names.old) }
+    ensures value { Reads file_item_tree (rule.declared depth names.old front from declarator r.old) result r.new }
+    ensures names { rule.NamesBehindItem names.old result names.new }
 {
     let is_typedef = matches!(front.storage, Some(Storage::Typedef));
     if !is_typedef && r.sees(Punct::LeftBrace) {
@@ -129,43 +129,36 @@ fn external(
 ) -> Result<FileItem, ParseError>
     requires { depth ≤ 200 }
     ensures value { Reads file_item_tree (reading.external depth names.old (cursors.begin r.old) r.old) result r.new }
-    ensures names { IfOk result (λ x. names.new ≡ grammar.behind_item (file_item_tree x) names.old) }
+    ensures names { rule.NamesBehindItem names.old result names.new }
 {
     let from = r.begin();
     let storage = stored(r);
-    let (specs, _height) = read_specs(alloc, names, r, depth, true)?;
+    let specs = read_specs(alloc, names, r, depth, true)?;
     let front = Front {
         storage,
-        specs,
+        specs: specs.tree,
         from,
     };
     if r.sees(Punct::Semicolon) {
         return close(r, depth, front, Items::new(alloc));
     }
     let begin = r.begin();
-    let (declarator, _height) = read_declarator(alloc, names, r, depth, Naming::Named)?;
-    declared(alloc, names, r, depth, front, begin, declarator)
+    let declarator = read_declarator(alloc, names, r, depth, Naming::Named)?;
+    declared(alloc, names, r, depth, front, begin, declarator.tree)
 }
 
-/// Makes this text a type name.
-fn add(alloc: Global, names: &mut TypeNames, text: &[u8]) -> Result<(), Memory>
-    ensures { OnOk result (names.new ≡ text.now ∷ names.old) }
+/// Makes the types of `<stdint.h>` type names (C11 7.20.1.1). Their numbers are 0 to 7.
+fn add_stdint(names: &mut TypeNames) -> Result<(), Memory>
+    ensures { OnOk result (names.new ≡ stdint_numbers ++ names.old) }
 {
-    names.push(Name::from_slice(alloc, text)?)
-}
-
-/// Makes the types of `<stdint.h>` type names (C11 7.20.1.1).
-fn add_stdint(alloc: Global, names: &mut TypeNames) -> Result<(), Memory>
-    ensures { OnOk result (names.new ≡ grammar.stdint_types ++ names.old) }
-{
-    add(alloc, names, b"uint64_t")?;
-    add(alloc, names, b"uint32_t")?;
-    add(alloc, names, b"uint16_t")?;
-    add(alloc, names, b"uint8_t")?;
-    add(alloc, names, b"int64_t")?;
-    add(alloc, names, b"int32_t")?;
-    add(alloc, names, b"int16_t")?;
-    add(alloc, names, b"int8_t")
+    names.push(7)?;
+    names.push(6)?;
+    names.push(5)?;
+    names.push(4)?;
+    names.push(3)?;
+    names.push(2)?;
+    names.push(1)?;
+    names.push(0)
 }
 
 /// An item of a file.
@@ -178,7 +171,7 @@ fn file_item(
 ) -> Result<FileItem, ParseError>
     requires { depth ≤ 200 }
     ensures value { Reads file_item_tree (reading.file_item depth names.old r.old) result r.new }
-    ensures names { IfOk result (λ x. names.new ≡ grammar.behind_item (file_item_tree x) names.old) }
+    ensures names { rule.NamesBehindItem names.old result names.new }
 {
     let Some(t) = r.peek() else {
         return Err(ParseError::Broken(SynRule::S1));
@@ -187,7 +180,7 @@ fn file_item(
         return external(alloc, names, r, depth);
     };
     if *include == Include::Stdint {
-        add_stdint(alloc, names)?;
+        add_stdint(names)?;
     }
     r.take(t);
     Ok(FileItem::Included {
@@ -197,18 +190,17 @@ fn file_item(
     })
 }
 
-/// All items of the file that these tokens are, which the reader stands before.
+/// All items of a file, which the reader stands before.
 #[tactic(auto, using(crate::proofs::Turns::file_turn, crate::proofs::Turns::names_snoc, crate::proofs::Turns::file_item_shortens), unfolding(crate::specs::Reading::file))]
 pub fn file_items(
     alloc: Global,
-    tokens: &[Token],
     r: &mut Reader<'_>,
     depth: u32,
 ) -> Result<Items<FileItem>, ParseError>
     requires { depth ≤ 200 }
-    ensures { Reads (λ q. map file_item_tree q) (reading.file depth r.old) result r.new }
+    ensures { Reads (map file_item_tree) (reading.file depth r.old) result r.new }
 {
-    let mut names = TypeNames::new(alloc, tokens);
+    let mut names = TypeNames::new(alloc);
     let mut items = Items::new(alloc);
     'items: loop {
         if r.peek().is_none() {

@@ -1,15 +1,15 @@
 //! Initializers (C11 6.7.9).
 
-ghost use Rattle.std.specs.Prelude.{◌≤◌, ◌∷◌, [], map};
-ghost use Rattle.pa_tree.specs.Cursors.{from_of};
+ghost use Rattle.std.specs.Prelude.{◌≤◌, map};
 ghost use Rattle.pa_tree.specs.Views.{initializer_tree};
-ghost use Rattle.pa_reading.specs.Parser as parser;
 ghost use Rattle.pa_reading.specs.Reads.{Reads};
 ghost use Rattle.pa_pdecl.specs.Nests.{NestsInitializer};
 ghost use Rattle.pa_pdecl.specs.Reading as reading;
+ghost use Rattle.pa_pdecl.specs.Rules as rule;
 
 use pa_lex::Punct;
 use pa_pexpr::read_expr;
+use pa_pspec::At;
 use pa_reading::{ParseError, Reader, SynRule, TypeNames, needs};
 use pa_tree::Initializer;
 use sqlite_items::Items;
@@ -19,10 +19,8 @@ use std::alloc::Global;
 #[derive(Clone, Copy)]
 struct Braces<'a, F> {
     alloc: Global,
-    /// The names that are type names.
-    names: &'a TypeNames,
-    /// The depth of an initializer inside.
-    depth: u32,
+    /// Where an initializer inside stands.
+    at: At<'a>,
     item: F,
 }
 
@@ -31,18 +29,22 @@ impl<'a, F: Fn(Global, &TypeNames, &mut Reader<'_>, u32) -> Result<Initializer, 
     F,
 > {
     /// An initializer inside.
-    fn part(&self, r: &mut Reader<'_>) -> Result<Initializer, ParseError>
-        requires { NestsInitializer self.now.depth (F.pre self.now.item) (F.post self.now.item) }
-        ensures { Reads initializer_tree (reading.initializer self.now.names.now self.now.depth r.old) result r.new }
+    fn initializer(&self, r: &mut Reader<'_>) -> Result<Initializer, ParseError>
+        requires { NestsInitializer self.now.at.depth (F.pre self.now.item) (F.post self.now.item) }
+        ensures { Reads initializer_tree (rule.initializer self.now.at r.old) result r.new }
     {
-        (self.item)(self.alloc, self.names, r, self.depth)
+        (self.item)(self.alloc, self.at.names, r, self.at.depth)
     }
 
     /// The initializers behind the first one, and the last comma.
     #[tactic(auto, using(crate::proofs::Turns::initializer_turn, crate::proofs::Turns::initializer_more, crate::proofs::Turns::mark_shortens, crate::proofs::Turns::initializer_keeps))]
-    fn more(&self, r: &mut Reader<'_>, first: Initializer) -> Result<Items<Initializer>, ParseError>
-        requires { NestsInitializer self.now.depth (F.pre self.now.item) (F.post self.now.item) }
-        ensures { Reads (λ q. map initializer_tree q) (parser.iterate (reading.more_step self.now.names.now (reading.initializer self.now.names.now self.now.depth)) (initializer_tree first ∷ []) r.old) result r.new }
+    fn more_initializers(
+        &self,
+        r: &mut Reader<'_>,
+        first: Initializer,
+    ) -> Result<Items<Initializer>, ParseError>
+        requires { NestsInitializer self.now.at.depth (F.pre self.now.item) (F.post self.now.item) }
+        ensures { Reads (map initializer_tree) (rule.more_initializers self.now.at first r.old) result r.new }
     {
         let mut items = Items::new(self.alloc);
         items.push(first)?;
@@ -54,7 +56,7 @@ impl<'a, F: Fn(Global, &TypeNames, &mut Reader<'_>, u32) -> Result<Initializer, 
             if r.sees(Punct::RightBrace) {
                 return Ok(items);
             }
-            let item = self.part(r)?;
+            let item = self.initializer(r)?;
             items.push(item)?;
         }
     }
@@ -62,13 +64,13 @@ impl<'a, F: Fn(Global, &TypeNames, &mut Reader<'_>, u32) -> Result<Initializer, 
     /// All of it, at its `{`.
     #[tactic(auto, using(pa_tree::proofs::Views::initializer_views))]
     fn braced(&self, r: &mut Reader<'_>, from: u32) -> Result<Initializer, ParseError>
-        requires { NestsInitializer self.now.depth (F.pre self.now.item) (F.post self.now.item) }
-        ensures { Reads initializer_tree (reading.braced self.now.names.now self.now.depth (reading.initializer self.now.names.now self.now.depth) from r.old) result r.new }
+        requires { NestsInitializer self.now.at.depth (F.pre self.now.item) (F.post self.now.item) }
+        ensures { Reads initializer_tree (rule.braced self.now.at from r.old) result r.new }
     {
-        needs(1, self.depth)?;
+        needs(1, self.at.depth)?;
         r.expect(Punct::LeftBrace)?;
-        let first = self.part(r)?;
-        let items = self.more(r, first)?;
+        let first = self.initializer(r)?;
+        let items = self.more_initializers(r, first)?;
         r.expect(Punct::RightBrace)?;
         Ok(Initializer::Braced {
             items,
@@ -87,10 +89,10 @@ fn value(
     depth: u32,
 ) -> Result<Initializer, ParseError>
     requires { depth ≤ 200 }
-    ensures { Reads initializer_tree (parser.look (λ h. reading.value names.now depth (from_of h)) r.old) result r.new }
+    ensures { Reads initializer_tree (rule.value names.now depth r.old) result r.new }
 {
     let from = r.begin();
-    let (value, _height) = read_expr(alloc, names, r, depth, 1)?;
+    let value = read_expr(alloc, names, r, depth, 1)?.tree;
     Ok(Initializer::Value {
         value,
         from,
@@ -118,8 +120,10 @@ pub fn initializer(
     let from = r.begin();
     Braces {
         alloc,
-        names,
-        depth: depth - 1,
+        at: At {
+            names,
+            depth: depth - 1,
+        },
         item: initializer,
     }
     .braced(r, from)

@@ -4,15 +4,12 @@
 mod declaration;
 mod file;
 mod initializer;
-mod inside;
 mod parser;
 mod repetition;
 mod selection;
 mod statement;
+mod stmt_rules;
 mod typedef;
 mod word;
 
 pub use parser::parse;
-
-#[cfg(test)]
-mod tests;

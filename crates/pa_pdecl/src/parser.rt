@@ -1,7 +1,7 @@
 //! Whole files.
 
 ghost use Rattle.std.specs.Prelude.{◌≡◌};
-ghost use Rattle.pa_pdecl.specs.Answers as spec;
+ghost use Rattle.pa_tree.specs.Cursors as cursors;
 ghost use Rattle.pa_pdecl.specs.Parsed.{IsParsed};
 
 use crate::file::file_items;
@@ -16,7 +16,7 @@ const MOST_LEVELS: u32 = 200;
 
 /// Where the next token begins, or the last one ends where none is left.
 fn place(r: &Reader<'_>) -> u32
-    ensures { result ≡ spec.place r.now }
+    ensures { result ≡ cursors.place r.now }
 {
     match r.peek() {
         Some(t) => t.from,
@@ -24,19 +24,20 @@ fn place(r: &Reader<'_>) -> u32
     }
 }
 
-/// The file that the tokens spell (C11 6.9): they are its tree's leaves, and no path of the tree has more than 200 levels.
+/// The file that the tokens spell (C11 6.9), which is the only one: they are its tree's leaves, and no path of the tree has more than
+/// 200 levels.
 ///
 /// # Errors
 ///
-/// `Refused` at the first byte of the first token such that no file within 200 levels begins with the tokens up to and with
-/// it, or at the last token's end where tokens are missing: S2 where a deeper file begins so, else S1. `Memory` where memory
-/// is short.
+/// `Refused` by a rule at the place where reading stops, which is a token's first byte, or the last token's end where none is left: no
+/// file begins with the tokens up to and with the one there, of any depth at S1, and within 200 levels at S2. `Memory` where memory is
+/// short.
 #[tactic(auto, using(crate::proofs::Answers::read_file, crate::proofs::Answers::refused_file))]
 pub fn parse(alloc: Global, tokens: &[Token]) -> Result<File, Fault<SynRule>>
     ensures { IsParsed tokens.now result }
 {
     let mut r = Reader::new(tokens);
-    match file_items(alloc, tokens, &mut r, MOST_LEVELS) {
+    match file_items(alloc, &mut r, MOST_LEVELS) {
         Ok(items) => Ok(File { items }),
         Err(ParseError::Memory) => Err(Fault::Memory),
         Err(ParseError::Broken(rule)) => Err(Fault::Refused {

@@ -1,35 +1,36 @@
 //! Loops (C11 6.8.5).
 
 ghost use Rattle.std.specs.Prelude.{◌≤◌};
-ghost use Rattle.pa_lex.specs.declared.token.Keyword.TheVariants as w;
-ghost use Rattle.pa_tree.specs.Views.{stmt_tree};
+ghost use Rattle.std.specs.Option.{option_map};
+ghost use Rattle.pa_tree.specs.Views.{expr_tree, for_start_tree, stmt_tree};
 ghost use Rattle.pa_reading.specs.Reads.{Reads};
+ghost use Rattle.pa_pdecl.specs.Loops.{for_body, for_step, for_test};
 ghost use Rattle.pa_pdecl.specs.Nests.{NestsStmt};
-ghost use Rattle.pa_pdecl.specs.Reading as reading;
+ghost use Rattle.pa_pdecl.specs.Rules as rule;
 
-use crate::inside::Inside;
+use crate::stmt_rules::StmtRules;
 use crate::word::expect_word;
 use pa_lex::{Keyword, Punct, Token};
 use pa_reading::{ParseError, Reader, TypeNames, needs};
-use pa_tree::Stmt;
+use pa_tree::{Expr, ForStart, Stmt};
 use sqlite_items::Boxed;
 use std::alloc::Global;
 
-impl<'a, S: Fn(Global, &TypeNames, &mut Reader<'_>, u32) -> Result<Stmt, ParseError>> Inside<
+impl<'a, S: Fn(Global, &TypeNames, &mut Reader<'_>, u32) -> Result<Stmt, ParseError>> StmtRules<
     'a,
     S,
 > {
     /// `while`.
     #[tactic(auto, using(pa_tree::proofs::Views::stmt_views))]
-    pub fn repeat_while(&self, r: &mut Reader<'_>, t: &Token) -> Result<Stmt, ParseError>
-        requires nests { NestsStmt self.now.depth (S.pre self.now.stmt) (S.post self.now.stmt) }
-        requires shallow { self.now.depth ≤ 200 }
-        ensures { Reads stmt_tree (reading.by_word self.now.names.now self.now.depth (reading.stmt self.now.names.now self.now.depth) t.now w.While r.old) result r.new }
+    pub fn while_stmt(&self, r: &mut Reader<'_>, t: &Token) -> Result<Stmt, ParseError>
+        requires nests { NestsStmt self.now.at.depth (S.pre self.now.stmt) (S.post self.now.stmt) }
+        requires shallow { self.now.at.depth ≤ 200 }
+        ensures { Reads stmt_tree (rule.while_stmt self.now.at t.now r.old) result r.new }
     {
-        needs(1, self.depth)?;
+        needs(1, self.at.depth)?;
         r.take(t);
-        let test = self.tested(r)?;
-        let body = self.part(r)?;
+        let test = self.parenthesized(r)?;
+        let body = self.stmt(r)?;
         let body = Boxed::new(self.alloc, body)?;
         Ok(Stmt::While {
             test,
@@ -41,17 +42,17 @@ impl<'a, S: Fn(Global, &TypeNames, &mut Reader<'_>, u32) -> Result<Stmt, ParseEr
 
     /// `do`, with its `while`.
     #[tactic(auto, using(pa_tree::proofs::Views::stmt_views))]
-    pub fn repeat_do(&self, r: &mut Reader<'_>, t: &Token) -> Result<Stmt, ParseError>
-        requires nests { NestsStmt self.now.depth (S.pre self.now.stmt) (S.post self.now.stmt) }
-        requires shallow { self.now.depth ≤ 200 }
-        ensures { Reads stmt_tree (reading.by_word self.now.names.now self.now.depth (reading.stmt self.now.names.now self.now.depth) t.now w.Do r.old) result r.new }
+    pub fn do_stmt(&self, r: &mut Reader<'_>, t: &Token) -> Result<Stmt, ParseError>
+        requires nests { NestsStmt self.now.at.depth (S.pre self.now.stmt) (S.post self.now.stmt) }
+        requires shallow { self.now.at.depth ≤ 200 }
+        ensures { Reads stmt_tree (rule.do_stmt self.now.at t.now r.old) result r.new }
     {
-        needs(1, self.depth)?;
+        needs(1, self.at.depth)?;
         r.take(t);
-        let body = self.part(r)?;
+        let body = self.stmt(r)?;
         let body = Boxed::new(self.alloc, body)?;
         expect_word(r, Keyword::While)?;
-        let test = self.tested(r)?;
+        let test = self.parenthesized(r)?;
         r.expect(Punct::Semicolon)?;
         Ok(Stmt::DoWhile {
             body,
@@ -61,30 +62,69 @@ impl<'a, S: Fn(Global, &TypeNames, &mut Reader<'_>, u32) -> Result<Stmt, ParseEr
         })
     }
 
-    /// `for`.
+    /// The body of a `for`.
     #[tactic(auto, using(pa_tree::proofs::Views::stmt_views))]
-    pub fn repeat_for(&self, r: &mut Reader<'_>, t: &Token) -> Result<Stmt, ParseError>
-        requires nests { NestsStmt self.now.depth (S.pre self.now.stmt) (S.post self.now.stmt) }
-        requires shallow { self.now.depth ≤ 200 }
-        ensures { Reads stmt_tree (reading.by_word self.now.names.now self.now.depth (reading.stmt self.now.names.now self.now.depth) t.now w.For r.old) result r.new }
+    fn for_body(
+        &self,
+        r: &mut Reader<'_>,
+        from: u32,
+        start: ForStart,
+        test: Option<Expr>,
+        step: Option<Expr>,
+    ) -> Result<Stmt, ParseError>
+        requires nests { NestsStmt self.now.at.depth (S.pre self.now.stmt) (S.post self.now.stmt) }
+        ensures { Reads stmt_tree (for_body self.now.at from (for_start_tree start) (option_map expr_tree test) (option_map expr_tree step) r.old) result r.new }
     {
-        needs(1, self.depth)?;
-        r.take(t);
-        r.expect(Punct::LeftParenthesis)?;
-        let start = self.start(r)?;
-        let test = self.maybe(r, Punct::Semicolon)?;
-        r.expect(Punct::Semicolon)?;
-        let step = self.maybe(r, Punct::RightParenthesis)?;
-        r.expect(Punct::RightParenthesis)?;
-        let body = self.part(r)?;
+        let body = self.stmt(r)?;
         let body = Boxed::new(self.alloc, body)?;
         Ok(Stmt::For {
             start,
             test,
             step,
             body,
-            from: t.from,
+            from,
             to: r.ended(),
         })
+    }
+
+    /// Behind the second `;` of a `for`.
+    fn for_step(
+        &self,
+        r: &mut Reader<'_>,
+        from: u32,
+        start: ForStart,
+        test: Option<Expr>,
+    ) -> Result<Stmt, ParseError>
+        requires nests { NestsStmt self.now.at.depth (S.pre self.now.stmt) (S.post self.now.stmt) }
+        requires shallow { self.now.at.depth ≤ 200 }
+        ensures { Reads stmt_tree (for_step self.now.at from (for_start_tree start) (option_map expr_tree test) r.old) result r.new }
+    {
+        let step = self.optional_expr(r, Punct::RightParenthesis)?;
+        r.expect(Punct::RightParenthesis)?;
+        self.for_body(r, from, start, test, step)
+    }
+
+    /// Behind the first `;` of a `for`.
+    fn for_test(&self, r: &mut Reader<'_>, from: u32, start: ForStart) -> Result<Stmt, ParseError>
+        requires nests { NestsStmt self.now.at.depth (S.pre self.now.stmt) (S.post self.now.stmt) }
+        requires shallow { self.now.at.depth ≤ 200 }
+        ensures { Reads stmt_tree (for_test self.now.at from (for_start_tree start) r.old) result r.new }
+    {
+        let test = self.optional_expr(r, Punct::Semicolon)?;
+        r.expect(Punct::Semicolon)?;
+        self.for_step(r, from, start, test)
+    }
+
+    /// `for`.
+    pub fn for_stmt(&self, r: &mut Reader<'_>, t: &Token) -> Result<Stmt, ParseError>
+        requires nests { NestsStmt self.now.at.depth (S.pre self.now.stmt) (S.post self.now.stmt) }
+        requires shallow { self.now.at.depth ≤ 200 }
+        ensures { Reads stmt_tree (rule.for_stmt self.now.at t.now r.old) result r.new }
+    {
+        needs(1, self.at.depth)?;
+        r.take(t);
+        r.expect(Punct::LeftParenthesis)?;
+        let start = self.for_start(r)?;
+        self.for_test(r, t.from, start)
     }
 }

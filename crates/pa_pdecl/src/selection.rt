@@ -1,14 +1,12 @@
 //! Selection statements and labels (C11 6.8.4 and 6.8.1).
 
 ghost use Rattle.std.specs.Prelude.{◌≤◌};
-ghost use Rattle.pa_lex.specs.declared.token.Keyword.TheVariants as w;
-ghost use Rattle.pa_tree.specs.Views.{expr_tree, stmt_tree};
-ghost use Rattle.pa_reading.specs.Parser as parser;
+ghost use Rattle.pa_tree.specs.Views.{stmt_tree};
 ghost use Rattle.pa_reading.specs.Reads.{Reads};
 ghost use Rattle.pa_pdecl.specs.Nests.{NestsStmt};
-ghost use Rattle.pa_pdecl.specs.Reading as reading;
+ghost use Rattle.pa_pdecl.specs.Rules as rule;
 
-use crate::inside::Inside;
+use crate::stmt_rules::StmtRules;
 use crate::word::{expect_word, sees_word};
 use pa_lex::{Keyword, Punct, Token};
 use pa_pexpr::read_expr;
@@ -17,21 +15,21 @@ use pa_tree::{Expr, Stmt};
 use sqlite_items::Boxed;
 use std::alloc::Global;
 
-impl<'a, S: Fn(Global, &TypeNames, &mut Reader<'_>, u32) -> Result<Stmt, ParseError>> Inside<
+impl<'a, S: Fn(Global, &TypeNames, &mut Reader<'_>, u32) -> Result<Stmt, ParseError>> StmtRules<
     'a,
     S,
 > {
     /// Behind the statement of an `if`: an `else` belongs to it.
     #[tactic(auto, using(pa_tree::proofs::Views::stmt_views))]
-    fn otherwise(
+    fn else_part(
         &self,
         r: &mut Reader<'_>,
         from: u32,
         test: Expr,
         when_true: Stmt,
     ) -> Result<Stmt, ParseError>
-        requires nests { NestsStmt self.now.depth (S.pre self.now.stmt) (S.post self.now.stmt) }
-        ensures { Reads stmt_tree (parser.look (reading.else_at self.now.names.now self.now.depth (reading.stmt self.now.names.now self.now.depth) from (expr_tree test) (stmt_tree when_true)) r.old) result r.new }
+        requires nests { NestsStmt self.now.at.depth (S.pre self.now.stmt) (S.post self.now.stmt) }
+        ensures { Reads stmt_tree (rule.else_part self.now.at from test when_true r.old) result r.new }
     {
         let when_true = Boxed::new(self.alloc, when_true)?;
         if !sees_word(r, Keyword::Else) {
@@ -43,7 +41,7 @@ impl<'a, S: Fn(Global, &TypeNames, &mut Reader<'_>, u32) -> Result<Stmt, ParseEr
             });
         }
         expect_word(r, Keyword::Else)?;
-        let when_false = self.part(r)?;
+        let when_false = self.stmt(r)?;
         let when_false = Boxed::new(self.alloc, when_false)?;
         Ok(Stmt::IfElse {
             test,
@@ -56,29 +54,29 @@ impl<'a, S: Fn(Global, &TypeNames, &mut Reader<'_>, u32) -> Result<Stmt, ParseEr
 
     /// `if`, with its `else` where one follows.
     #[tactic(auto, using(pa_tree::proofs::Views::stmt_views))]
-    pub fn condition(&self, r: &mut Reader<'_>, t: &Token) -> Result<Stmt, ParseError>
-        requires nests { NestsStmt self.now.depth (S.pre self.now.stmt) (S.post self.now.stmt) }
-        requires shallow { self.now.depth ≤ 200 }
-        ensures { Reads stmt_tree (reading.by_word self.now.names.now self.now.depth (reading.stmt self.now.names.now self.now.depth) t.now w.If r.old) result r.new }
+    pub fn if_stmt(&self, r: &mut Reader<'_>, t: &Token) -> Result<Stmt, ParseError>
+        requires nests { NestsStmt self.now.at.depth (S.pre self.now.stmt) (S.post self.now.stmt) }
+        requires shallow { self.now.at.depth ≤ 200 }
+        ensures { Reads stmt_tree (rule.if_stmt self.now.at t.now r.old) result r.new }
     {
-        needs(1, self.depth)?;
+        needs(1, self.at.depth)?;
         r.take(t);
-        let test = self.tested(r)?;
-        let when_true = self.part(r)?;
-        self.otherwise(r, t.from, test, when_true)
+        let test = self.parenthesized(r)?;
+        let when_true = self.stmt(r)?;
+        self.else_part(r, t.from, test, when_true)
     }
 
     /// `switch`.
     #[tactic(auto, using(pa_tree::proofs::Views::stmt_views))]
-    pub fn switch(&self, r: &mut Reader<'_>, t: &Token) -> Result<Stmt, ParseError>
-        requires nests { NestsStmt self.now.depth (S.pre self.now.stmt) (S.post self.now.stmt) }
-        requires shallow { self.now.depth ≤ 200 }
-        ensures { Reads stmt_tree (reading.by_word self.now.names.now self.now.depth (reading.stmt self.now.names.now self.now.depth) t.now w.Switch r.old) result r.new }
+    pub fn switch_stmt(&self, r: &mut Reader<'_>, t: &Token) -> Result<Stmt, ParseError>
+        requires nests { NestsStmt self.now.at.depth (S.pre self.now.stmt) (S.post self.now.stmt) }
+        requires shallow { self.now.at.depth ≤ 200 }
+        ensures { Reads stmt_tree (rule.switch_stmt self.now.at t.now r.old) result r.new }
     {
-        needs(1, self.depth)?;
+        needs(1, self.at.depth)?;
         r.take(t);
-        let value = self.tested(r)?;
-        let body = self.part(r)?;
+        let value = self.parenthesized(r)?;
+        let body = self.stmt(r)?;
         let body = Boxed::new(self.alloc, body)?;
         Ok(Stmt::Switch {
             value,
@@ -90,16 +88,16 @@ impl<'a, S: Fn(Global, &TypeNames, &mut Reader<'_>, u32) -> Result<Stmt, ParseEr
 
     /// `case`.
     #[tactic(auto, using(pa_tree::proofs::Views::stmt_views))]
-    pub fn case(&self, r: &mut Reader<'_>, t: &Token) -> Result<Stmt, ParseError>
-        requires nests { NestsStmt self.now.depth (S.pre self.now.stmt) (S.post self.now.stmt) }
-        requires shallow { self.now.depth ≤ 200 }
-        ensures { Reads stmt_tree (reading.by_word self.now.names.now self.now.depth (reading.stmt self.now.names.now self.now.depth) t.now w.Case r.old) result r.new }
+    pub fn case_stmt(&self, r: &mut Reader<'_>, t: &Token) -> Result<Stmt, ParseError>
+        requires nests { NestsStmt self.now.at.depth (S.pre self.now.stmt) (S.post self.now.stmt) }
+        requires shallow { self.now.at.depth ≤ 200 }
+        ensures { Reads stmt_tree (rule.case_stmt self.now.at t.now r.old) result r.new }
     {
-        needs(1, self.depth)?;
+        needs(1, self.at.depth)?;
         r.take(t);
-        let (value, _height) = read_expr(self.alloc, self.names, r, self.depth, 2)?;
+        let value = read_expr(self.alloc, self.at.names, r, self.at.depth, 2)?.tree;
         r.expect(Punct::Colon)?;
-        let body = self.part(r)?;
+        let body = self.stmt(r)?;
         let body = Boxed::new(self.alloc, body)?;
         Ok(Stmt::Case {
             value,
@@ -111,15 +109,15 @@ impl<'a, S: Fn(Global, &TypeNames, &mut Reader<'_>, u32) -> Result<Stmt, ParseEr
 
     /// `default`.
     #[tactic(auto, using(pa_tree::proofs::Views::stmt_views))]
-    pub fn default(&self, r: &mut Reader<'_>, t: &Token) -> Result<Stmt, ParseError>
-        requires nests { NestsStmt self.now.depth (S.pre self.now.stmt) (S.post self.now.stmt) }
-        requires shallow { self.now.depth ≤ 200 }
-        ensures { Reads stmt_tree (reading.by_word self.now.names.now self.now.depth (reading.stmt self.now.names.now self.now.depth) t.now w.Default r.old) result r.new }
+    pub fn default_stmt(&self, r: &mut Reader<'_>, t: &Token) -> Result<Stmt, ParseError>
+        requires nests { NestsStmt self.now.at.depth (S.pre self.now.stmt) (S.post self.now.stmt) }
+        requires shallow { self.now.at.depth ≤ 200 }
+        ensures { Reads stmt_tree (rule.default_stmt self.now.at t.now r.old) result r.new }
     {
-        needs(1, self.depth)?;
+        needs(1, self.at.depth)?;
         r.take(t);
         r.expect(Punct::Colon)?;
-        let body = self.part(r)?;
+        let body = self.stmt(r)?;
         let body = Boxed::new(self.alloc, body)?;
         Ok(Stmt::Default {
             body,

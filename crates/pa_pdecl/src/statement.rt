@@ -1,31 +1,30 @@
 //! Statements (C11 6.8).
 
 ghost use Rattle.std.specs.Prelude.{◌≡◌, ◌≤◌};
-ghost use Rattle.pa_lex.specs.declared.token.Keyword.TheVariants as w;
-ghost use Rattle.pa_lex.specs.declared.token.Kind.TheVariants as kind;
-ghost use Rattle.pa_lex.specs.declared.token.Punct.TheVariants as p;
 ghost use Rattle.pa_tree.specs.Views.{stmt_tree};
 ghost use Rattle.pa_reading.specs.Parser as parser;
 ghost use Rattle.pa_reading.specs.Reads.{Reads};
 ghost use Rattle.pa_pdecl.specs.Nests.{NestsStmt};
 ghost use Rattle.pa_pdecl.specs.Reading as reading;
+ghost use Rattle.pa_pdecl.specs.Rules as rule;
 
-use crate::inside::Inside;
+use crate::stmt_rules::StmtRules;
 use pa_lex::{Keyword, Kind, Punct, Token};
 use pa_pexpr::read_expr;
+use pa_pspec::At;
 use pa_reading::{ParseError, Reader, SynRule, TypeNames};
 use pa_tree::Stmt;
 use std::alloc::Global;
 
-impl<'a, S: Fn(Global, &TypeNames, &mut Reader<'_>, u32) -> Result<Stmt, ParseError>> Inside<
+impl<'a, S: Fn(Global, &TypeNames, &mut Reader<'_>, u32) -> Result<Stmt, ParseError>> StmtRules<
     'a,
     S,
 > {
     /// `break`.
     #[tactic(auto, using(pa_tree::proofs::Views::stmt_views))]
-    fn leave(&self, r: &mut Reader<'_>, t: &Token) -> Result<Stmt, ParseError>
-        requires shallow { self.now.depth ≤ 200 }
-        ensures { Reads stmt_tree (reading.by_word self.now.names.now self.now.depth (reading.stmt self.now.names.now self.now.depth) t.now w.Break r.old) result r.new }
+    fn break_stmt(&self, r: &mut Reader<'_>, t: &Token) -> Result<Stmt, ParseError>
+        requires shallow { self.now.at.depth ≤ 200 }
+        ensures { Reads stmt_tree (rule.break_stmt self.now.at t.now r.old) result r.new }
     {
         r.take(t);
         r.expect(Punct::Semicolon)?;
@@ -37,9 +36,9 @@ impl<'a, S: Fn(Global, &TypeNames, &mut Reader<'_>, u32) -> Result<Stmt, ParseEr
 
     /// `continue`.
     #[tactic(auto, using(pa_tree::proofs::Views::stmt_views))]
-    fn go_on(&self, r: &mut Reader<'_>, t: &Token) -> Result<Stmt, ParseError>
-        requires shallow { self.now.depth ≤ 200 }
-        ensures { Reads stmt_tree (reading.by_word self.now.names.now self.now.depth (reading.stmt self.now.names.now self.now.depth) t.now w.Continue r.old) result r.new }
+    fn continue_stmt(&self, r: &mut Reader<'_>, t: &Token) -> Result<Stmt, ParseError>
+        requires shallow { self.now.at.depth ≤ 200 }
+        ensures { Reads stmt_tree (rule.continue_stmt self.now.at t.now r.old) result r.new }
     {
         r.take(t);
         r.expect(Punct::Semicolon)?;
@@ -51,12 +50,12 @@ impl<'a, S: Fn(Global, &TypeNames, &mut Reader<'_>, u32) -> Result<Stmt, ParseEr
 
     /// `return`.
     #[tactic(auto, using(pa_tree::proofs::Views::stmt_views))]
-    fn give(&self, r: &mut Reader<'_>, t: &Token) -> Result<Stmt, ParseError>
-        requires shallow { self.now.depth ≤ 200 }
-        ensures { Reads stmt_tree (reading.by_word self.now.names.now self.now.depth (reading.stmt self.now.names.now self.now.depth) t.now w.Return r.old) result r.new }
+    fn return_stmt(&self, r: &mut Reader<'_>, t: &Token) -> Result<Stmt, ParseError>
+        requires shallow { self.now.at.depth ≤ 200 }
+        ensures { Reads stmt_tree (rule.return_stmt self.now.at t.now r.old) result r.new }
     {
         r.take(t);
-        let value = self.maybe(r, Punct::Semicolon)?;
+        let value = self.optional_expr(r, Punct::Semicolon)?;
         r.expect(Punct::Semicolon)?;
         Ok(Stmt::Return {
             value,
@@ -67,11 +66,11 @@ impl<'a, S: Fn(Global, &TypeNames, &mut Reader<'_>, u32) -> Result<Stmt, ParseEr
 
     /// An expression, or none, with its `;`.
     #[tactic(auto, using(pa_tree::proofs::Views::stmt_views))]
-    fn expression(&self, r: &mut Reader<'_>, from: u32) -> Result<Stmt, ParseError>
-        requires shallow { self.now.depth ≤ 200 }
-        ensures { Reads stmt_tree (reading.expression self.now.names.now self.now.depth (reading.stmt self.now.names.now self.now.depth) from r.old) result r.new }
+    fn expr_stmt(&self, r: &mut Reader<'_>, from: u32) -> Result<Stmt, ParseError>
+        requires shallow { self.now.at.depth ≤ 200 }
+        ensures { Reads stmt_tree (rule.expr_stmt self.now.at from r.old) result r.new }
     {
-        let value = self.maybe(r, Punct::Semicolon)?;
+        let value = self.optional_expr(r, Punct::Semicolon)?;
         r.expect(Punct::Semicolon)?;
         Ok(Stmt::Expression {
             value,
@@ -82,13 +81,13 @@ impl<'a, S: Fn(Global, &TypeNames, &mut Reader<'_>, u32) -> Result<Stmt, ParseEr
 
     /// A compound statement.
     #[tactic(auto, using(pa_tree::proofs::Views::stmt_views))]
-    fn block(&self, r: &mut Reader<'_>, t: &Token) -> Result<Stmt, ParseError>
-        requires nests { NestsStmt self.now.depth (S.pre self.now.stmt) (S.post self.now.stmt) }
-        requires shallow { self.now.depth ≤ 200 }
-        ensures { Reads stmt_tree (reading.by_kind self.now.names.now self.now.depth (reading.stmt self.now.names.now self.now.depth) t.now (kind.Punct p.LeftBrace) r.old) result r.new }
+    fn compound_stmt(&self, r: &mut Reader<'_>, t: &Token) -> Result<Stmt, ParseError>
+        requires nests { NestsStmt self.now.at.depth (S.pre self.now.stmt) (S.post self.now.stmt) }
+        requires shallow { self.now.at.depth ≤ 200 }
+        ensures { Reads stmt_tree (rule.compound_stmt self.now.at t.now r.old) result r.new }
     {
         r.take(t);
-        let items = self.items(r)?;
+        let items = self.block_items(r)?;
         r.expect(Punct::RightBrace)?;
         Ok(Stmt::Compound {
             items,
@@ -98,52 +97,57 @@ impl<'a, S: Fn(Global, &TypeNames, &mut Reader<'_>, u32) -> Result<Stmt, ParseEr
     }
 
     /// At a keyword.
-    fn by_word(&self, r: &mut Reader<'_>, t: &Token, keyword: Keyword) -> Result<Stmt, ParseError>
-        requires nests { NestsStmt self.now.depth (S.pre self.now.stmt) (S.post self.now.stmt) }
-        requires shallow { self.now.depth ≤ 200 }
-        ensures { Reads stmt_tree (reading.by_word self.now.names.now self.now.depth (reading.stmt self.now.names.now self.now.depth) t.now keyword r.old) result r.new }
+    fn keyword_stmt(
+        &self,
+        r: &mut Reader<'_>,
+        t: &Token,
+        keyword: Keyword,
+    ) -> Result<Stmt, ParseError>
+        requires nests { NestsStmt self.now.at.depth (S.pre self.now.stmt) (S.post self.now.stmt) }
+        requires shallow { self.now.at.depth ≤ 200 }
+        ensures { Reads stmt_tree (rule.keyword_stmt self.now.at t.now keyword r.old) result r.new }
     {
         match keyword {
-            Keyword::If => self.condition(r, t),
-            Keyword::While => self.repeat_while(r, t),
-            Keyword::Do => self.repeat_do(r, t),
-            Keyword::For => self.repeat_for(r, t),
-            Keyword::Switch => self.switch(r, t),
-            Keyword::Case => self.case(r, t),
-            Keyword::Default => self.default(r, t),
-            Keyword::Break => self.leave(r, t),
-            Keyword::Continue => self.go_on(r, t),
-            Keyword::Return => self.give(r, t),
-            _ => self.expression(r, t.from),
+            Keyword::If => self.if_stmt(r, t),
+            Keyword::While => self.while_stmt(r, t),
+            Keyword::Do => self.do_stmt(r, t),
+            Keyword::For => self.for_stmt(r, t),
+            Keyword::Switch => self.switch_stmt(r, t),
+            Keyword::Case => self.case_stmt(r, t),
+            Keyword::Default => self.default_stmt(r, t),
+            Keyword::Break => self.break_stmt(r, t),
+            Keyword::Continue => self.continue_stmt(r, t),
+            Keyword::Return => self.return_stmt(r, t),
+            _ => self.expr_stmt(r, t.from),
         }
     }
 
     /// At a punctuator.
-    fn by_punct(&self, r: &mut Reader<'_>, t: &Token, punct: Punct) -> Result<Stmt, ParseError>
-        requires nests { NestsStmt self.now.depth (S.pre self.now.stmt) (S.post self.now.stmt) }
-        requires shallow { self.now.depth ≤ 200 }
-        ensures { Reads stmt_tree (reading.by_kind self.now.names.now self.now.depth (reading.stmt self.now.names.now self.now.depth) t.now (kind.Punct punct) r.old) result r.new }
+    fn punct_stmt(&self, r: &mut Reader<'_>, t: &Token, punct: Punct) -> Result<Stmt, ParseError>
+        requires nests { NestsStmt self.now.at.depth (S.pre self.now.stmt) (S.post self.now.stmt) }
+        requires shallow { self.now.at.depth ≤ 200 }
+        ensures { Reads stmt_tree (rule.punct_stmt self.now.at t.now punct r.old) result r.new }
     {
         match punct {
-            Punct::LeftBrace => self.block(r, t),
-            _ => self.expression(r, t.from),
+            Punct::LeftBrace => self.compound_stmt(r, t),
+            _ => self.expr_stmt(r, t.from),
         }
     }
 
     /// A statement whose parts are inside.
     #[tactic(auto, unfolding(crate::specs::Reading::stmt_level))]
-    fn level(&self, r: &mut Reader<'_>) -> Result<Stmt, ParseError>
-        requires nests { NestsStmt self.now.depth (S.pre self.now.stmt) (S.post self.now.stmt) }
-        requires shallow { self.now.depth ≤ 200 }
-        ensures { Reads stmt_tree (reading.stmt_level self.now.names.now self.now.depth (reading.stmt self.now.names.now self.now.depth) r.old) result r.new }
+    fn stmt_level(&self, r: &mut Reader<'_>) -> Result<Stmt, ParseError>
+        requires nests { NestsStmt self.now.at.depth (S.pre self.now.stmt) (S.post self.now.stmt) }
+        requires shallow { self.now.at.depth ≤ 200 }
+        ensures { Reads stmt_tree (rule.stmt_level self.now.at r.old) result r.new }
     {
         let Some(t) = r.peek() else {
             return Err(ParseError::Broken(SynRule::S1));
         };
         match &t.kind {
-            Kind::Keyword(keyword) => self.by_word(r, t, *keyword),
-            Kind::Punct(punct) => self.by_punct(r, t, *punct),
-            _ => self.expression(r, t.from),
+            Kind::Keyword(keyword) => self.keyword_stmt(r, t, *keyword),
+            Kind::Punct(punct) => self.punct_stmt(r, t, *punct),
+            _ => self.expr_stmt(r, t.from),
         }
     }
 }
@@ -181,7 +185,7 @@ pub fn no_stmt(alloc: Global, names: &TypeNames, r: &mut Reader<'_>) -> Result<S
     if begins_stmt(names, &t.kind) {
         return Err(ParseError::Broken(SynRule::S2));
     }
-    let (_tree, _height) = read_expr(alloc, names, r, 0, 0)?;
+    read_expr(alloc, names, r, 0, 0)?;
     Err(ParseError::Broken(SynRule::S1))
 }
 
@@ -199,11 +203,13 @@ pub fn stmt(
     if depth == 0 {
         return no_stmt(alloc, names, r);
     }
-    Inside {
+    StmtRules {
         alloc,
-        names,
-        depth: depth - 1,
+        at: At {
+            names,
+            depth: depth - 1,
+        },
         stmt: stmt,
     }
-    .level(r)
+    .stmt_level(r)
 }

@@ -1,30 +1,29 @@
 //! Declarators at the level of a file, where a typedef makes names type names (C11 6.7.8).
 
-ghost use Rattle.std.specs.Prelude.{◌≡◌, ◌≤◌, ◌∷◌, [], map, IfOk, OnOk};
+ghost use Rattle.std.specs.Prelude.{◌≡◌, ◌≤◌, OnOk};
 ghost use Rattle.pa_tree.specs.Files as grammar;
-ghost use Rattle.pa_tree.specs.Views.{declarator_tree, init_declarator_tree};
-ghost use Rattle.pa_reading.specs.Reads.{Reads};
-ghost use Rattle.pa_pdecl.specs.Reading as reading;
+ghost use Rattle.pa_tree.specs.Views.{declarator_tree};
+ghost use Rattle.pa_pdecl.specs.Rules as rule;
 
 use crate::declaration::finished;
-use pa_lex::Punct;
-use pa_num::{Memory, Name};
+use pa_lex::{NameNumber, Punct};
+use pa_num::Memory;
 use pa_pexpr::read_declarator;
 use pa_reading::{Naming, ParseError, Reader, TypeNames};
 use pa_tree::{Declarator, InitDeclarator, Storage};
 use sqlite_items::Items;
 use std::alloc::Global;
 
-/// The name that is declared, or no letter where none is.
+/// The name that is declared, if one is.
 #[tactic(auto, using(pa_tree::proofs::Views::expr_views))]
-fn declared_name(alloc: Global, declarator: &Declarator) -> Result<Name, Memory>
-    ensures { IfOk result (λ name. name ≡ grammar.declared_name (declarator_tree declarator.now)) }
+fn declared_name(declarator: &Declarator) -> Option<NameNumber>
+    ensures { result ≡ grammar.declared_name (declarator_tree declarator.now) }
 {
     let mut at = declarator;
     'parts: loop {
         at = match at {
-            Declarator::Named { name, .. } => return Ok(Name::from_slice(alloc, name.as_slice())?),
-            Declarator::Absent { .. } => return Ok(Name::new(alloc)),
+            Declarator::Named { name, .. } => return Some(*name),
+            Declarator::Absent { .. } => return None,
             Declarator::Pointer { of, .. } => of.get(),
             Declarator::Grouped { inner, .. } => inner.get(),
             Declarator::Array { of, .. } => of.get(),
@@ -35,7 +34,6 @@ fn declared_name(alloc: Global, declarator: &Declarator) -> Result<Name, Memory>
 
 /// Makes the name of a typedef's declarator a type name.
 fn note(
-    alloc: Global,
     names: &mut TypeNames,
     storage: Option<Storage>,
     declarator: &Declarator,
@@ -43,7 +41,10 @@ fn note(
     ensures { OnOk result (names.new ≡ grammar.behind storage (declarator_tree declarator.now) names.old) }
 {
     match storage {
-        Some(Storage::Typedef) => names.push(declared_name(alloc, declarator)?),
+        Some(Storage::Typedef) => match declared_name(declarator) {
+            Some(name) => names.push(name),
+            None => Ok(()),
+        },
         _ => Ok(()),
     }
 }
@@ -59,10 +60,10 @@ fn noted(
     declarator: Declarator,
 ) -> Result<InitDeclarator, ParseError>
     requires { depth ≤ 200 }
-    ensures value { Reads init_declarator_tree (reading.finished storage depth names.old from (declarator_tree declarator) r.old) result r.new }
-    ensures names { IfOk result (λ x. names.new ≡ grammar.behind_all storage (init_declarator_tree x ∷ []) names.old) }
+    ensures value { rule.ReadsDeclarator (rule.finished storage depth names.old from declarator r.old) result r.new }
+    ensures names { rule.NamesBehind storage names.old result names.new }
 {
-    note(alloc, names, storage, &declarator)?;
+    note(names, storage, &declarator)?;
     finished(alloc, names, r, depth, from, declarator)
 }
 
@@ -76,11 +77,11 @@ fn another(
     storage: Option<Storage>,
 ) -> Result<InitDeclarator, ParseError>
     requires { depth ≤ 200 }
-    ensures value { Reads init_declarator_tree (reading.init_declarator storage depth names.old r.old) result r.new }
-    ensures names { IfOk result (λ x. names.new ≡ grammar.behind_all storage (init_declarator_tree x ∷ []) names.old) }
+    ensures value { rule.ReadsDeclarator (rule.init_declarator storage depth names.old r.old) result r.new }
+    ensures names { rule.NamesBehind storage names.old result names.new }
 {
     let from = r.begin();
-    let (declarator, _height) = read_declarator(alloc, names, r, depth, Naming::Named)?;
+    let declarator = read_declarator(alloc, names, r, depth, Naming::Named)?.tree;
     noted(alloc, names, r, depth, storage, from, declarator)
 }
 
@@ -96,8 +97,8 @@ pub fn declarators(
     declarator: Declarator,
 ) -> Result<Items<InitDeclarator>, ParseError>
     requires { depth ≤ 200 }
-    ensures value { Reads (λ q. map init_declarator_tree q) (reading.all_declared storage depth names.old from (declarator_tree declarator) r.old) result r.new }
-    ensures names { IfOk result (λ q. names.new ≡ grammar.behind_all storage (map init_declarator_tree q) names.old) }
+    ensures value { rule.ReadsDeclarators (rule.all_declared storage depth names.old from declarator r.old) result r.new }
+    ensures names { rule.NamesBehindAll storage names.old result names.new }
 {
     let first = noted(alloc, names, r, depth, storage, from, declarator)?;
     let mut items = Items::new(alloc);

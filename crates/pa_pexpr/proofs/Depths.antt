@@ -4,7 +4,7 @@ use Rattle.pa_tree.specs.Cursors.{Cursor}
 use Rattle.pa_reading.specs.declared.rule.Naming.{Naming}
 use Rattle.pa_reading.specs.Reading.{parsers, expr_level, opened_level, declarator_level}
 
-module _ (names : List (List ℕ)) where
+module _ (names : List ℕ) where
   one_less : (d : ℕ) → 0 < d → d ≡ suc (d - 1)
   one_less d h = omega (arith, h)
 

@@ -9,7 +9,9 @@ use Rattle.pa_tree.specs.declared.expr.Expr.{Expr}
 use Rattle.pa_tree.specs.Views.{expr_tree, exprs_of}
 use Rattle.pa_reading.specs.declared.rule.ParseError.{ParseError}
 use Rattle.pa_reading.specs.Commas.{behind_comma}
-use Rattle.pa_reading.specs.Nests.{ReadsExpr}
+use Rattle.pa_pspec.specs.declared.measured.Measured.{Measured}
+use Rattle.pa_pspec.specs.Measures.{Gives}
+use Rattle.pa_pspec.specs.Trees as tree
 use Rattle.pa_reading.specs.Parser.{Parser, and_then, goes, iterate, mark, sees, many, item_step}
 use Rattle.pa_reading.specs.Reading.{Parsers, text_step, parsers, next, turn, last, climb}
 use Rattle.pa_reading.proofs.Meets.{IfRead}
@@ -21,7 +23,7 @@ use Rattle.pa_reading.proofs.Steps.{then_is}
 pub text_turn : (all : List ℕ) (c : Cursor) → iterate text_step all c ≡ and_then (text_step all c) (goes (iterate text_step))
 text_turn all c = one_turn text_step text-shrinks all c
 
-module _ (names : List (List ℕ)) (d : ℕ) where
+module _ (names : List ℕ) (d : ℕ) where
   -- a comma and an argument
   abbrev pub argument : Parser ExprTree
   argument = behind_comma ((parsers names d).expr 1)
@@ -35,8 +37,8 @@ module _ (names : List (List ℕ)) (d : ℕ) where
   pub argument_fewer : (t : ExprTree) (c e : Cursor) → argument c ≡ Ok (t, e) → length e.ahead < length c.ahead
   argument_fewer t c e h = let f = (argument-eats.holds c).holds in rw h at f
 
-pub next_fewer : (names : List (List ℕ)) (d : ℕ) (old middle new : Cursor) (r : Result (Expr × ℕ) ParseError) → mark p.Comma old ≡ Ok (tt, middle) → ReadsExpr ((parsers names d).expr 1 middle) r new → OnOk r (length new.ahead < length old.ahead)
-next_fewer names d old middle new (Ok q) m h = argument_fewer names d (expr_tree q.0) old new (then_is (mark p.Comma) ((parsers names d).expr 1) old middle tt (Ok (expr_tree q.0, new)) m h)
+pub next_fewer : (names : List ℕ) (d : ℕ) (old middle new : Cursor) (r : Result (Measured Expr) ParseError) → mark p.Comma old ≡ Ok (tt, middle) → Gives tree.expr ((parsers names d).expr 1 middle) r new → OnOk r (length new.ahead < length old.ahead)
+next_fewer names d old middle new (Ok q) m h = argument_fewer names d (expr_tree q.tree) old new (then_is (mark p.Comma) ((parsers names d).expr 1) old middle tt (Ok (expr_tree q.tree, new)) m h)
 next_fewer names d old middle new (Err e) m h = tt
 
 pub exprs_snoc : (ts : List ExprTree) (t : ExprTree) → exprs_height (exprs_of (ts ++ t ∷ [])) ≡ max (exprs_height (exprs_of ts)) (expr_height t)
@@ -46,7 +48,7 @@ exprs_snoc (x ∷ xs) t = let e = exprs_snoc xs t in grind (arith, e)
 pub shown_snoc : (es : List Expr) (e : Expr) → map expr_tree (es ++ e ∷ []) ≡ map expr_tree es ++ expr_tree e ∷ []
 shown_snoc es e = map-append expr_tree es (e ∷ [])
 
-module _ (names : List (List ℕ)) (d : ℕ) (below : Parsers) (from level : ℕ) where
+module _ (names : List ℕ) (d : ℕ) (below : Parsers) (from level : ℕ) where
   pub climb_more : (n i : ℕ) (left : ExprTree) (c : Cursor) → i < n → climb names d below from level (n - i) left c ≡ and_then (next level left c) (turn names d below from left (climb names d below from level (n - (i + 1))))
   unfolding climb
   climb_more n i left c h = let e : n - i ≡ suc (n - (i + 1)) = omega arith in rw e refl

@@ -1,25 +1,31 @@
 //! The readers of trees to a depth.
 
 ghost use Rattle.std.specs.Prelude.{◌≡◌, ◌≤◌};
-ghost use Rattle.pa_reading.specs.Nests.{ReadsExpr, Measured, ReadsSpecs, MeasuredSpecs, ReadsDeclarator, MeasuredDeclarator};
+ghost use Rattle.pa_pspec.specs.Measures.{Gives, Measures};
+ghost use Rattle.pa_pspec.specs.Trees as tree;
 ghost use Rattle.pa_reading.specs.Reading as reading;
 
-use crate::below::Below;
-use pa_pspec::{Parts, bare_declarator};
+use crate::expr_rules::ExprRules;
+use pa_pspec::{At, Measured, Readers, TypeRules, bare_declarator};
 use pa_reading::{Naming, ParseError, Reader, TypeNames, no_expr};
 use pa_tree::{Declarator, Expr, Specs};
 use std::alloc::Global;
 
-/// The readers of this file, for the parts at a depth.
-macro_rules! parts {
-    ($alloc:expr, $names:expr, $depth:expr) => {
-        Parts {
+/// These rules over the readers of this file, for parts that stand in a depth.
+macro_rules! rules {
+    ($rules:ident, $alloc:expr, $names:expr, $depth:expr) => {
+        $rules {
             alloc: $alloc,
-            names: $names,
-            depth: $depth,
-            expr: read_expr,
-            specs: read_specs,
-            declarator: read_declarator,
+            at: At {
+                names: $names,
+                depth: $depth,
+            },
+            parts: Readers {
+                expr: read_expr,
+                opened: read_opened,
+                specs: read_specs,
+                declarator: read_declarator,
+            },
         }
     };
 }
@@ -33,19 +39,15 @@ pub fn read_expr(
     r: &mut Reader<'_>,
     depth: u32,
     level: u8,
-) -> Result<(Expr, u32), ParseError>
+) -> Result<Measured<Expr>, ParseError>
     requires { depth ≤ 200 }
-    ensures value { ReadsExpr ((reading.parsers names.now depth).expr level r.old) result r.new }
-    ensures measured { Measured depth result }
+    ensures value { Gives tree.expr ((reading.parsers names.now depth).expr level r.old) result r.new }
+    ensures measured { Measures tree.expr depth result }
 {
     if depth == 0 {
         return Err(ParseError::Broken(no_expr(names, r)));
     }
-    let below = Below {
-        parts: parts!(alloc, names, depth - 1),
-        opened: read_opened,
-    };
-    below.expr_level(r, level)
+    rules!(ExprRules, alloc, names, depth - 1).expr_level(r, level)
 }
 
 /// Reads on behind the `(` of a unary expression, which stands at `from` and is followed by no type name.
@@ -57,19 +59,15 @@ fn read_opened(
     r: &mut Reader<'_>,
     depth: u32,
     from: u32,
-) -> Result<(Expr, u32), ParseError>
+) -> Result<Measured<Expr>, ParseError>
     requires { depth ≤ 200 }
-    ensures value { ReadsExpr ((reading.parsers names.now depth).opened from r.old) result r.new }
-    ensures measured { Measured depth result }
+    ensures value { Gives tree.expr ((reading.parsers names.now depth).opened from r.old) result r.new }
+    ensures measured { Measures tree.expr depth result }
 {
     if depth == 0 {
         return Err(ParseError::Broken(no_expr(names, r)));
     }
-    let below = Below {
-        parts: parts!(alloc, names, depth - 1),
-        opened: read_opened,
-    };
-    below.opened_level(r, from)
+    rules!(ExprRules, alloc, names, depth - 1).opened_level(r, from)
 }
 
 /// Reads specifiers that are no deeper than `depth`, where `bodies` says whether the body of a struct or an enumeration may stand, and
@@ -82,12 +80,12 @@ pub fn read_specs(
     r: &mut Reader<'_>,
     depth: u32,
     bodies: bool,
-) -> Result<(Specs, u32), ParseError>
+) -> Result<Measured<Specs>, ParseError>
     requires { depth ≤ 200 }
-    ensures value { ReadsSpecs ((reading.parsers names.now depth).specs bodies r.old) result r.new }
-    ensures measured { MeasuredSpecs depth result }
+    ensures value { Gives tree.specs ((reading.parsers names.now depth).specs bodies r.old) result r.new }
+    ensures measured { Measures tree.specs depth result }
 {
-    parts!(alloc, names, depth).specs_level(r, bodies)
+    rules!(TypeRules, alloc, names, depth).specs_level(r, bodies)
 }
 
 /// Reads a declarator that is no deeper than `depth`, and gives its height.
@@ -99,13 +97,13 @@ pub fn read_declarator(
     r: &mut Reader<'_>,
     depth: u32,
     name: Naming,
-) -> Result<(Declarator, u32), ParseError>
+) -> Result<Measured<Declarator>, ParseError>
     requires { depth ≤ 200 }
-    ensures value { ReadsDeclarator ((reading.parsers names.now depth).declarator name r.old) result r.new }
-    ensures measured { MeasuredDeclarator depth result }
+    ensures value { Gives tree.declarator ((reading.parsers names.now depth).declarator name r.old) result r.new }
+    ensures measured { Measures tree.declarator depth result }
 {
     if depth == 0 {
         return bare_declarator(names, r, name);
     }
-    parts!(alloc, names, depth - 1).declarator_level(r, name)
+    rules!(TypeRules, alloc, names, depth - 1).declarator_level(r, name)
 }

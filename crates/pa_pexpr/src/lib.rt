@@ -2,17 +2,15 @@
 #![tactic(auto)]
 
 mod arguments;
-mod below;
 mod climb;
 mod depth;
+mod expr_rules;
 mod infix;
 mod operand;
 mod piece;
 mod whole;
 
 pub use depth::{read_declarator, read_expr, read_specs};
+pub use pa_pspec::Measured;
 pub use pa_reading::{Level, Naming, ParseError, Reader, SynRule, TypeNames, begins_type, needs};
 pub use whole::{MOST_LEVELS, declarator, expr, type_specs};
-
-#[cfg(test)]
-mod tests;

@@ -77,15 +77,15 @@ macro_rules! longest {
         let room = MOST_LEVELS - $depth;
         let mut r = reader_at($tokens, $at);
         match $read($alloc, $names, &mut r, room, $form) {
-            Ok((tree, _)) => Ok((tree, $tokens.len() - r.left())),
+            Ok(read) => Ok((read.tree, $tokens.len() - r.left())),
             Err(ParseError::Memory) => Err(Fault::Memory),
             Err(ParseError::Broken(rule)) => {
                 let end = $tokens.len() - r.left();
                 let mut front = reader_at(&$tokens[..end], $at);
                 match $read($alloc, $names, &mut front, room, $form) {
-                    Ok((tree, _)) => {
+                    Ok(read) => {
                         if front.left() == 0 {
-                            Ok((tree, end))
+                            Ok((read.tree, end))
                         } else {
                             Err(refusal($tokens, rule, end))
                         }

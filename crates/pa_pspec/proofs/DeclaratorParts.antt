@@ -21,13 +21,13 @@ use Rattle.pa_reading.proofs.LocalReading.{parsers-local, parameter-local}
 use Rattle.pa_reading.proofs.Eats.{Eats}
 use Rattle.pa_reading.proofs.Turned.{behind-eats}
 
-pub takes_parameter : (names : List (List ℕ)) (d : ℕ) → Eats (behind_comma (parameter names d (parsers names d)))
+pub takes_parameter : (names : List ℕ) (d : ℕ) → Eats (behind_comma (parameter names d (parsers names d)))
 takes_parameter names d = behind-eats (parameter names d (parsers names d)) (parameter-local names d (parsers names d) (parsers-local names d))
 
 from_some : (x y : Suffix × Token) → Some x ≡ Some y → x ≡ y
 from_some x y e = cc
 
-module _ (names : List (List ℕ)) (d : ℕ) (below : Parsers) (from : ℕ) (of : DeclaratorTree) where
+module _ (names : List ℕ) (d : ℕ) (below : Parsers) (from : ℕ) (of : DeclaratorTree) where
   abbrev some : DeclaratorTree → Parser (Option DeclaratorTree)
   some x = pure (Some x)
 

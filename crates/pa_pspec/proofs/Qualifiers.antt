@@ -12,7 +12,7 @@ use Rattle.pa_reading.specs.Reading.{Parsers, parsers, conds, qualifier}
 use Rattle.pa_reading.proofs.Eats.{Eats}
 use Rattle.pa_reading.proofs.LocalReading.{parsers-local, qualifier-eats}
 
-module _ (names : List (List ℕ)) (d : ℕ) (here : Parsers) where
+module _ (names : List ℕ) (d : ℕ) (here : Parsers) where
   -- no more than n further expressions, behind these
   unfoldable pub conds_behind : List ExprTree → ℕ → Parser (List ExprTree)
   conds_behind all n = conds names d here n >>= (λ es. pure (all ++ es))
@@ -74,5 +74,5 @@ first_kept x e l all h k = let f : all ≡ x ∷ (drop 1 l ++ e ∷ []) = k ∙ 
 pub rest_kept : {A : Type 0} (x e : A) (l all : List A) → l ≡ x ∷ drop 1 l → all ≡ l ++ e ∷ [] → drop 1 all ≡ drop 1 l ++ e ∷ []
 rest_kept x e l all h k = ap (drop 1) (k ∙ ap (λ y. y ++ e ∷ []) h)
 
-pub takes_qualifier : (names : List (List ℕ)) (d : ℕ) → Eats (qualifier names d (parsers names d) (parsers names d))
+pub takes_qualifier : (names : List ℕ) (d : ℕ) → Eats (qualifier names d (parsers names d) (parsers names d))
 takes_qualifier names d = qualifier-eats names d (parsers names d) (parsers names d) (λ level. (parsers-local names d).expr level) (parsers-local names d)

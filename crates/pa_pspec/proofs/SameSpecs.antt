@@ -74,7 +74,7 @@ same_item more f g e all = same_look (λ h. same_if (more h) {q = f >>= (λ x. p
 same_many : {A : Type 0} (more : Option Token → Bool) {f g : Parser A} → Same f g → (all : List A) → Same (many more f all) (many more g all)
 same_many more {f = f} {g = g} e all = same_iterate (item_step more f) (item_step more g) (same_item more f g e) all
 
-module _ (names : List (List ℕ)) (d : ℕ) (h₁ b₁ h₂ b₂ : Parsers) where
+module _ (names : List ℕ) (d : ℕ) (h₁ b₁ h₂ b₂ : Parsers) where
   module _ (same : (level : ℕ) → Same (h₁.expr level) (h₂.expr level)) where
     same_conds_at : (q r : Parser (List ExprTree)) → Same q r → (h : Option Token) → Same (reading.conds_at names d h₁ q h) (reading.conds_at names d h₂ r h)
     same_conds_at q r e h = same_if (sees p.Comma h) (same_then itself (same_bind (same 2) (λ x. same_bind e (λ es. itself)))) itself
@@ -146,7 +146,7 @@ module _ (names : List (List ℕ)) (d : ℕ) (h₁ b₁ h₂ b₂ : Parsers) whe
     unfolding base
     same_base bodies = same_look (same_base_at bodies)
 
-module _ (names : List (List ℕ)) (d : ℕ) (bodies : Bool) where
+module _ (names : List ℕ) (d : ℕ) (bodies : Bool) where
   abbrev whole_behind : Option Token → List QualifierTree → BaseTree → List QualifierTree → Parser SpecsTree
   whole_behind h b x a = ended >>= (λ z. pure (OfSpecs (qualifiers_of b) x (qualifiers_of a) (from_of h) z))
 
@@ -160,12 +160,12 @@ module _ (names : List (List ℕ)) (d : ℕ) (bodies : Bool) where
   unfolding specs_level
   same_specs here below e k = same_look (λ h. same_bind (same_qualifiers names d here below (parsers names d) (parsers names d) e) (λ b. same_bind (same_base names d here below (parsers names d) (parsers names (d - 1)) k bodies) (λ x. same_bind {f = whole_behind h b x} {g = whole_behind h b x} (same_qualifiers names d here below (parsers names d) (parsers names d) e) (λ a. itself))))
 
-pub specs_whole : (names : List (List ℕ)) (d : ℕ) (bodies : Bool) (c : Cursor) → (parsers names d).specs bodies c ≡ whole names d bodies c
+pub specs_whole : (names : List ℕ) (d : ℕ) (bodies : Bool) (c : Cursor) → (parsers names d).specs bodies c ≡ whole names d bodies c
 unfolding parsers
 specs_whole names zero bodies c = (same_specs names 0 bodies (no_parsers names) (no_parsers names) (λ k. absurd (omega arith)) (λ k. absurd (omega arith))).holds c
 specs_whole names (suc n) bodies c = (same_specs names (suc n) bodies (record { expr = expr_level names n (parsers names n); opened = opened_level names n (parsers names n); specs = λ bodies. refuse S2; declarator = λ name. refuse S2 }) (parsers names n) (λ _ level. itself) (λ _. ap (parsers names) (omega arith))).holds c
 
-module _ (names : List (List ℕ)) (d : ℕ) (bodies : Bool) (c : Cursor) where
+module _ (names : List ℕ) (d : ℕ) (bodies : Bool) (c : Cursor) where
   pub specs_read : (b a : List QualifierTree) (x : BaseTree) (m n e : Cursor) → qualifiers names d (parsers names d) (parsers names d) c ≡ Ok (b, m) → base names d (parsers names d) (parsers names (d - 1)) bodies m ≡ Ok (x, n)
       → qualifiers names d (parsers names d) (parsers names d) n ≡ Ok (a, e) → (parsers names d).specs bodies c ≡ Ok (OfSpecs (qualifiers_of b) x (qualifiers_of a) (from_of (head c.ahead)) e.ended, e)
   specs_read b a x m n e f g h = specs_whole names d bodies c ∙ rw f (rw g (rw h refl))

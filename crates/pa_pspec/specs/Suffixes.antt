@@ -34,10 +34,10 @@ abbrev pub suffix_shown : Option (Suffix × Bor Token) → Option (Suffix × Tok
 suffix_shown None = None
 suffix_shown (Some q) = Some (q.0, (q.1).now)
 
-abbrev pub part_of : List (List ℕ) → ℕ → Parsers → Suffix → ℕ → DeclaratorTree → Parser DeclaratorTree
+abbrev pub part_of : List ℕ → ℕ → Parsers → Suffix → ℕ → DeclaratorTree → Parser DeclaratorTree
 part_of names d below part.Array = array names d below
 part_of names d below part.Function = function names d below
 
 -- at the token of a part
-abbrev pub suffix_of : List (List ℕ) → ℕ → Parsers → Suffix → ℕ → DeclaratorTree → Token → Parser DeclaratorTree
+abbrev pub suffix_of : List ℕ → ℕ → Parsers → Suffix → ℕ → DeclaratorTree → Token → Parser DeclaratorTree
 suffix_of names d below s from of t = needs (declarator_height of) d >> after t >> part_of names d below s from of

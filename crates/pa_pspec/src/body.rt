@@ -1,24 +1,22 @@
-//! The bodies of structs (C11 6.7.2.1) and enumerations (6.7.2.2). Their parts stand one level deeper than they do.
+//! The bodies of structs (C11 6.7.2.1) and enumerations (6.7.2.2). Their parts stand in the depth of the rules, one level deeper than
+//! they do.
 
-ghost use Rattle.std.specs.Prelude.{◌≡◌, ◌≤◌, ◌-◌, ◌∷◌, [], map, true, IfOk, IfSome};
-ghost use Rattle.pa_lex.specs.declared.token.Punct.TheVariants as p;
+ghost use Rattle.std.specs.Prelude.{◌≡◌, ◌≤◌, suc};
 ghost use Rattle.pa_tree.specs.Cursors as cursors;
-ghost use Rattle.pa_tree.specs.Heights.{base_height, declarator_height, enumerator_height, maybe_expr_height, member_height};
-ghost use Rattle.pa_tree.specs.Views.{base_tree, declarator_tree, enumerator_tree, member_tree};
-ghost use Rattle.pa_reading.specs.Nests.{NestsExpr, NestsSpecs, NestsDeclarator, ReadsExpr, Measured, ReadsSpecs, MeasuredSpecs, ReadsDeclarator, MeasuredDeclarator};
-ghost use Rattle.pa_reading.specs.Parser as parser;
-ghost use Rattle.pa_reading.specs.Commas.{behind_comma};
-ghost use Rattle.pa_reading.specs.Parts.{ReadsPart, Measures, height_of_declarators, height_of_enumerators, height_of_members, constant_shown, maybe_expr_tree};
+ghost use Rattle.pa_tree.specs.Heights.{declarator_height, enumerator_height, member_height};
+ghost use Rattle.pa_tree.specs.Views.{declarator_tree, enumerator_tree, member_tree};
+ghost use Rattle.pa_pspec.specs.Measures.{Gives, Measures, ReadsStep, MeasuresNext};
+ghost use Rattle.pa_pspec.specs.Rules as rule;
+ghost use Rattle.pa_pspec.specs.Trees as tree;
 ghost use Rattle.pa_reading.specs.Reading as reading;
-ghost use Rattle.pa_reading.specs.Reads.{Reads};
-ghost use Rattle.pa_reading.specs.declared.rule.Naming.TheVariants as naming;
 
+use crate::measured::Measured;
 use crate::parts::Parts;
+use crate::type_rules::TypeRules;
 use pa_lex::Punct;
-use pa_reading::{Naming, ParseError, Reader, TypeNames, needs, plain_name};
-use pa_tree::{Base, COND_LEVEL, Declarator, Enumerator, Expr, Member, Specs, Tag};
+use pa_reading::{Naming, ParseError, Reader, plain_name};
+use pa_tree::{Base, COND_LEVEL, Declarator, Enumerator, Expr, Member, Tag};
 use sqlite_items::{Boxed, Items};
-use std::alloc::Global;
 
 /// Another member follows: the body does not end.
 fn member_follows(r: &Reader<'_>) -> bool
@@ -27,129 +25,83 @@ fn member_follows(r: &Reader<'_>) -> bool
     !r.sees(Punct::RightBrace)
 }
 
-impl<
-    'a,
-    F: Fn(Global, &TypeNames, &mut Reader<'_>, u32, u8) -> Result<(Expr, u32), ParseError>,
-    H: Fn(Global, &TypeNames, &mut Reader<'_>, u32, bool) -> Result<(Specs, u32), ParseError>,
-    I: Fn(
-        Global,
-        &TypeNames,
-        &mut Reader<'_>,
-        u32,
-        Naming,
-    ) -> Result<(Declarator, u32), ParseError>,
-> Parts<'a, F, H, I> {
-    /// An expression of this level in a body.
-    fn inner_expr(&self, r: &mut Reader<'_>, level: u8) -> Result<(Expr, u32), ParseError>
-        requires expr { NestsExpr (self.now.depth - 1) (F.pre self.now.expr) (F.post self.now.expr) }
-        requires room { 2 ≤ self.now.depth }
-        ensures value { ReadsExpr ((reading.parsers self.now.names.now (self.now.depth - 1)).expr level r.old) result r.new }
-        ensures measured { Measured (self.now.depth - 1) result }
-    {
-        (self.expr)(self.alloc, self.names, r, self.depth - 1, level)
-    }
-
-    /// The specifiers of a member.
-    fn inner_specs(&self, r: &mut Reader<'_>) -> Result<(Specs, u32), ParseError>
-        requires specs { NestsSpecs (self.now.depth - 1) (H.pre self.now.specs) (H.post self.now.specs) }
-        requires room { 2 ≤ self.now.depth }
-        ensures value { ReadsSpecs ((reading.parsers self.now.names.now (self.now.depth - 1)).specs true r.old) result r.new }
-        ensures measured { MeasuredSpecs (self.now.depth - 1) result }
-    {
-        (self.specs)(self.alloc, self.names, r, self.depth - 1, true)
-    }
-
-    /// The declarator of a member.
-    fn inner_declarator(&self, r: &mut Reader<'_>) -> Result<(Declarator, u32), ParseError>
-        requires declarator { NestsDeclarator (self.now.depth - 1) (I.pre self.now.declarator) (I.post self.now.declarator) }
-        requires room { 2 ≤ self.now.depth }
-        ensures value { ReadsDeclarator ((reading.parsers self.now.names.now (self.now.depth - 1)).declarator naming.Named r.old) result r.new }
-        ensures measured { MeasuredDeclarator (self.now.depth - 1) result }
-    {
-        (self.declarator)(self.alloc, self.names, r, self.depth - 1, Naming::Named)
-    }
-
+impl<'a, P: Parts> TypeRules<'a, P> {
     /// One more declarator of a member, behind a comma.
-    fn next_declarator(&self, r: &mut Reader<'_>) -> Result<(Declarator, u32), ParseError>
-        requires declarator { NestsDeclarator (self.now.depth - 1) (I.pre self.now.declarator) (I.post self.now.declarator) }
-        requires room { 2 ≤ self.now.depth }
-        ensures value { ReadsDeclarator ((behind_comma ((reading.parsers self.now.names.now (self.now.depth - 1)).declarator naming.Named)) r.old) result r.new }
-        ensures measured { MeasuredDeclarator (self.now.depth - 1) result }
+    fn next_declarator(&self, r: &mut Reader<'_>) -> Result<Measured<Declarator>, ParseError>
+        requires types { P.reads_types self.now.parts self.now.at.depth }
+        ensures value { Gives tree.declarator (rule.next_declarator self.now.at r.old) result r.new }
+        ensures measured { Measures tree.declarator self.now.at.depth result }
     {
         r.expect(Punct::Comma)?;
-        self.inner_declarator(r)
+        self.declarator(r, Naming::Named)
     }
 
     /// The declarators of a member behind the first one, and the greatest height of all.
     fn more_declarators(
         &self,
         r: &mut Reader<'_>,
-        first: (Declarator, u32),
-    ) -> Result<(Items<Declarator>, u32), ParseError>
-        requires declarator { NestsDeclarator (self.now.depth - 1) (I.pre self.now.declarator) (I.post self.now.declarator) }
-        requires room { 2 ≤ self.now.depth }
-        requires first_height { first.1 ≡ declarator_height (declarator_tree first.0) }
-        requires first_fits { first.1 ≤ self.now.depth - 1 }
-        ensures value { ReadsPart (map declarator_tree) (parser.many (parser.sees p.Comma) (behind_comma ((reading.parsers self.now.names.now (self.now.depth - 1)).declarator naming.Named)) (declarator_tree first.0 ∷ []) r.old) result r.new }
-        ensures measured { Measures (map declarator_tree) height_of_declarators (self.now.depth - 1) result }
+        first: Measured<Declarator>,
+    ) -> Result<Measured<Items<Declarator>>, ParseError>
+        requires types { P.reads_types self.now.parts self.now.at.depth }
+        requires first_height { first.height ≡ declarator_height (declarator_tree first.tree) }
+        requires first_fits { first.height ≤ self.now.at.depth }
+        ensures value { Gives tree.declarators (rule.more_declarators self.now.at first.tree r.old) result r.new }
+        ensures measured { Measures tree.declarators self.now.at.depth result }
     {
-        let mut height = first.1;
+        let mut height = first.height;
         let mut all = Items::new(self.alloc);
-        all.push(first.0)?;
+        all.push(first.tree)?;
         'declarators: while r.sees(Punct::Comma) {
-            let (declarator, declarator_height) = self.next_declarator(r)?;
-            all.push(declarator)?;
-            height = height.max(declarator_height);
+            let declarator = self.next_declarator(r)?;
+            all.push(declarator.tree)?;
+            height = height.max(declarator.height);
         }
-        Ok((all, height))
+        Ok(Measured { tree: all, height })
     }
 
     /// Members that share their specifiers.
     #[tactic(auto, using(pa_tree::proofs::Views::expr_views), unfolding(pa_reading::specs::Reading::member))]
-    fn member(&self, r: &mut Reader<'_>) -> Result<(Member, u32), ParseError>
-        requires specs { NestsSpecs (self.now.depth - 1) (H.pre self.now.specs) (H.post self.now.specs) }
-        requires declarator { NestsDeclarator (self.now.depth - 1) (I.pre self.now.declarator) (I.post self.now.declarator) }
-        requires room { 2 ≤ self.now.depth }
-        ensures value { ReadsPart member_tree (reading.member self.now.names.now self.now.depth (reading.parsers self.now.names.now self.now.depth) (reading.parsers self.now.names.now (self.now.depth - 1)) r.old) result r.new }
-        ensures measured { Measures member_tree member_height (self.now.depth - 1) result }
+    fn member(&self, r: &mut Reader<'_>) -> Result<Measured<Member>, ParseError>
+        requires types { P.reads_types self.now.parts self.now.at.depth }
+        ensures value { Gives tree.member (rule.member self.now.at r.old) result r.new }
+        ensures measured { Measures tree.member self.now.at.depth result }
     {
         let from = r.begin();
-        let (specs, specs_height) = self.inner_specs(r)?;
-        let first = self.inner_declarator(r)?;
-        let (declarators, height) = self.more_declarators(r, first)?;
+        let specs = self.specs(r, true)?;
+        let first = self.declarator(r, Naming::Named)?;
+        let declarators = self.more_declarators(r, first)?;
         r.expect(Punct::Semicolon)?;
-        let member = Member {
-            specs,
-            declarators,
+        let height = specs.height.max(declarators.height);
+        let tree = Member {
+            specs: specs.tree,
+            declarators: declarators.tree,
             from,
             to: r.ended(),
         };
-        Ok((member, specs_height.max(height)))
+        Ok(Measured { tree, height })
     }
 
     /// The members of a body behind the first one, and the greatest height of all.
     fn more_members(
         &self,
         r: &mut Reader<'_>,
-        first: (Member, u32),
-    ) -> Result<(Items<Member>, u32), ParseError>
-        requires specs { NestsSpecs (self.now.depth - 1) (H.pre self.now.specs) (H.post self.now.specs) }
-        requires declarator { NestsDeclarator (self.now.depth - 1) (I.pre self.now.declarator) (I.post self.now.declarator) }
-        requires room { 2 ≤ self.now.depth }
-        requires first_height { first.1 ≡ member_height (member_tree first.0) }
-        requires first_fits { first.1 ≤ self.now.depth - 1 }
-        ensures value { ReadsPart (map member_tree) (parser.many reading.not_brace (reading.member self.now.names.now self.now.depth (reading.parsers self.now.names.now self.now.depth) (reading.parsers self.now.names.now (self.now.depth - 1))) (member_tree first.0 ∷ []) r.old) result r.new }
-        ensures measured { Measures (map member_tree) height_of_members (self.now.depth - 1) result }
+        first: Measured<Member>,
+    ) -> Result<Measured<Items<Member>>, ParseError>
+        requires types { P.reads_types self.now.parts self.now.at.depth }
+        requires first_height { first.height ≡ member_height (member_tree first.tree) }
+        requires first_fits { first.height ≤ self.now.at.depth }
+        ensures value { Gives tree.members (rule.more_members self.now.at first.tree r.old) result r.new }
+        ensures measured { Measures tree.members self.now.at.depth result }
     {
-        let mut height = first.1;
+        let mut height = first.height;
         let mut all = Items::new(self.alloc);
-        all.push(first.0)?;
+        all.push(first.tree)?;
         'members: while member_follows(r) {
-            let (member, member_height) = self.member(r)?;
-            all.push(member)?;
-            height = height.max(member_height);
+            let member = self.member(r)?;
+            all.push(member.tree)?;
+            height = height.max(member.height);
         }
-        Ok((all, height))
+        Ok(Measured { tree: all, height })
     }
 
     /// The body of a struct.
@@ -159,69 +111,76 @@ impl<
         r: &mut Reader<'_>,
         from: u32,
         tag: Option<Tag>,
-    ) -> Result<(Base, u32), ParseError>
-        requires specs { 2 ≤ self.now.depth → NestsSpecs (self.now.depth - 1) (H.pre self.now.specs) (H.post self.now.specs) }
-        requires declarator { 2 ≤ self.now.depth → NestsDeclarator (self.now.depth - 1) (I.pre self.now.declarator) (I.post self.now.declarator) }
-        requires shallow { self.now.depth ≤ 200 }
-        ensures value { ReadsPart base_tree (reading.struct_body self.now.names.now self.now.depth (reading.parsers self.now.names.now self.now.depth) (reading.parsers self.now.names.now (self.now.depth - 1)) from tag r.old) result r.new }
-        ensures measured { Measures base_tree base_height self.now.depth result }
+    ) -> Result<Measured<Base>, ParseError>
+        requires types { P.reads_types self.now.parts self.now.at.depth }
+        requires shallow { self.now.at.depth ≤ 200 }
+        ensures value { Gives tree.base (rule.struct_body self.now.at from tag r.old) result r.new }
+        ensures measured { Measures tree.base (suc self.now.at.depth) result }
     {
-        needs(2, self.depth)?;
         r.expect(Punct::LeftBrace)?;
         let first = self.member(r)?;
-        let (members, height) = self.more_members(r, first)?;
+        let members = self.more_members(r, first)?;
         r.expect(Punct::RightBrace)?;
+        let height = members.height;
         let body = Base::StructBody {
             tag,
-            members,
+            members: members.tree,
             from,
             to: r.ended(),
         };
-        Ok((body, height + 1))
+        Ok(Measured::node(body, height))
     }
 
     /// The value of an enumeration constant, if one is written, and its height.
-    fn value(&self, r: &mut Reader<'_>) -> Result<(Option<Boxed<Expr>>, u32), ParseError>
-        requires expr { NestsExpr (self.now.depth - 1) (F.pre self.now.expr) (F.post self.now.expr) }
-        requires room { 2 ≤ self.now.depth }
-        ensures value { ReadsPart maybe_expr_tree (parser.look (reading.value_at self.now.names.now self.now.depth (reading.parsers self.now.names.now self.now.depth) (reading.parsers self.now.names.now (self.now.depth - 1))) r.old) result r.new }
-        ensures measured { Measures maybe_expr_tree maybe_expr_height (self.now.depth - 1) result }
+    fn value(&self, r: &mut Reader<'_>) -> Result<Measured<Option<Boxed<Expr>>>, ParseError>
+        requires exprs { P.reads_exprs self.now.parts self.now.at.depth }
+        ensures value { Gives tree.maybe_expr (rule.value self.now.at r.old) result r.new }
+        ensures measured { Measures tree.maybe_expr self.now.at.depth result }
     {
         if !r.sees(Punct::Assign) {
-            return Ok((None, 0));
+            return Ok(Measured {
+                tree: None,
+                height: 0,
+            });
         }
         r.expect(Punct::Assign)?;
-        let (value, height) = self.inner_expr(r, COND_LEVEL)?;
-        let value = Boxed::new(self.alloc, value)?;
-        Ok((Some(value), height))
+        let value = self.expr(r, COND_LEVEL)?;
+        Ok(Measured {
+            tree: Some(Boxed::new(self.alloc, value.tree)?),
+            height: value.height,
+        })
     }
 
     /// An enumeration constant.
     #[tactic(auto, using(pa_tree::proofs::Views::expr_views), unfolding(pa_reading::specs::Reading::enumerator))]
-    fn enumerator(&self, r: &mut Reader<'_>) -> Result<(Enumerator, u32), ParseError>
-        requires expr { NestsExpr (self.now.depth - 1) (F.pre self.now.expr) (F.post self.now.expr) }
-        requires room { 2 ≤ self.now.depth }
-        ensures value { ReadsPart enumerator_tree (reading.enumerator self.now.names.now self.now.depth (reading.parsers self.now.names.now self.now.depth) (reading.parsers self.now.names.now (self.now.depth - 1)) r.old) result r.new }
-        ensures measured { Measures enumerator_tree enumerator_height (self.now.depth - 1) result }
+    fn enumerator(&self, r: &mut Reader<'_>) -> Result<Measured<Enumerator>, ParseError>
+        requires exprs { P.reads_exprs self.now.parts self.now.at.depth }
+        requires room { 1 ≤ self.now.at.depth }
+        ensures value { Gives tree.enumerator (rule.enumerator self.now.at r.old) result r.new }
+        ensures measured { Measures tree.enumerator self.now.at.depth result }
     {
         let from = r.begin();
-        let name = plain_name(self.alloc, self.names, r)?.name;
-        let (value, height) = self.value(r)?;
-        let enumerator = Enumerator {
+        let name = plain_name(self.at.names, r)?.name;
+        let value = self.value(r)?;
+        let height = value.height.max(1);
+        let tree = Enumerator {
             name,
-            value,
+            value: value.tree,
             from,
             to: r.ended(),
         };
-        Ok((enumerator, height.max(1)))
+        Ok(Measured { tree, height })
     }
 
     /// One more enumeration constant behind a comma, if one follows. A comma alone is taken.
-    fn next_enumerator(&self, r: &mut Reader<'_>) -> Result<Option<(Enumerator, u32)>, ParseError>
-        requires expr { NestsExpr (self.now.depth - 1) (F.pre self.now.expr) (F.post self.now.expr) }
-        requires room { 2 ≤ self.now.depth }
-        ensures value { (items : _) → Reads (constant_shown items) (reading.enumerator_step self.now.names.now self.now.depth (reading.parsers self.now.names.now self.now.depth) (reading.parsers self.now.names.now (self.now.depth - 1)) items r.old) result r.new }
-        ensures measured { IfOk result (λ found. IfSome found (λ q. (q.1 ≡ enumerator_height (enumerator_tree q.0)) × (q.1 ≤ self.now.depth - 1))) }
+    fn next_enumerator(
+        &self,
+        r: &mut Reader<'_>,
+    ) -> Result<Option<Measured<Enumerator>>, ParseError>
+        requires exprs { P.reads_exprs self.now.parts self.now.at.depth }
+        requires room { 1 ≤ self.now.at.depth }
+        ensures value { ReadsStep (rule.enumerator_step self.now.at) r.old result r.new }
+        ensures measured { MeasuresNext tree.enumerator self.now.at.depth result }
     {
         if !r.sees(Punct::Comma) {
             return Ok(None);
@@ -238,25 +197,25 @@ impl<
     fn more_enumerators(
         &self,
         r: &mut Reader<'_>,
-        first: (Enumerator, u32),
-    ) -> Result<(Items<Enumerator>, u32), ParseError>
-        requires expr { NestsExpr (self.now.depth - 1) (F.pre self.now.expr) (F.post self.now.expr) }
-        requires room { 2 ≤ self.now.depth }
-        requires first_height { first.1 ≡ enumerator_height (enumerator_tree first.0) }
-        requires first_fits { first.1 ≤ self.now.depth - 1 }
-        ensures value { ReadsPart (map enumerator_tree) (parser.iterate (reading.enumerator_step self.now.names.now self.now.depth (reading.parsers self.now.names.now self.now.depth) (reading.parsers self.now.names.now (self.now.depth - 1))) (enumerator_tree first.0 ∷ []) r.old) result r.new }
-        ensures measured { Measures (map enumerator_tree) height_of_enumerators (self.now.depth - 1) result }
+        first: Measured<Enumerator>,
+    ) -> Result<Measured<Items<Enumerator>>, ParseError>
+        requires exprs { P.reads_exprs self.now.parts self.now.at.depth }
+        requires room { 1 ≤ self.now.at.depth }
+        requires first_height { first.height ≡ enumerator_height (enumerator_tree first.tree) }
+        requires first_fits { first.height ≤ self.now.at.depth }
+        ensures value { Gives tree.enumerators (rule.more_enumerators self.now.at first.tree r.old) result r.new }
+        ensures measured { Measures tree.enumerators self.now.at.depth result }
     {
-        let mut height = first.1;
+        let mut height = first.height;
         let mut all = Items::new(self.alloc);
-        all.push(first.0)?;
+        all.push(first.tree)?;
         'enumerators: loop {
             let found = self.next_enumerator(r)?;
             let Some(constant) = found else {
-                return Ok((all, height));
+                return Ok(Measured { tree: all, height });
             };
-            all.push(constant.0)?;
-            height = height.max(constant.1);
+            all.push(constant.tree)?;
+            height = height.max(constant.height);
         }
     }
 
@@ -267,23 +226,24 @@ impl<
         r: &mut Reader<'_>,
         from: u32,
         tag: Option<Tag>,
-    ) -> Result<(Base, u32), ParseError>
-        requires expr { 2 ≤ self.now.depth → NestsExpr (self.now.depth - 1) (F.pre self.now.expr) (F.post self.now.expr) }
-        requires shallow { self.now.depth ≤ 200 }
-        ensures value { ReadsPart base_tree (reading.enum_body self.now.names.now self.now.depth (reading.parsers self.now.names.now self.now.depth) (reading.parsers self.now.names.now (self.now.depth - 1)) from tag r.old) result r.new }
-        ensures measured { Measures base_tree base_height self.now.depth result }
+    ) -> Result<Measured<Base>, ParseError>
+        requires exprs { P.reads_exprs self.now.parts self.now.at.depth }
+        requires room { 1 ≤ self.now.at.depth }
+        requires shallow { self.now.at.depth ≤ 200 }
+        ensures value { Gives tree.base (rule.enum_body self.now.at from tag r.old) result r.new }
+        ensures measured { Measures tree.base (suc self.now.at.depth) result }
     {
-        needs(2, self.depth)?;
         r.expect(Punct::LeftBrace)?;
         let first = self.enumerator(r)?;
-        let (enumerators, height) = self.more_enumerators(r, first)?;
+        let enumerators = self.more_enumerators(r, first)?;
         r.expect(Punct::RightBrace)?;
+        let height = enumerators.height;
         let body = Base::EnumBody {
             tag,
-            enumerators,
+            enumerators: enumerators.tree,
             from,
             to: r.ended(),
         };
-        Ok((body, height + 1))
+        Ok(Measured::node(body, height))
     }
 }

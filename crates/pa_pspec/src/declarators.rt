@@ -2,22 +2,21 @@
 
 ghost use Rattle.std.specs.Prelude.{◌≡◌, ◌≤◌, ◌<◌, suc, IfOk};
 ghost use Rattle.pa_tree.specs.Cursors as cursors;
-ghost use Rattle.pa_tree.specs.Heights.{declarator_height, maybe_expr_height};
+ghost use Rattle.pa_tree.specs.Heights.{declarator_height};
 ghost use Rattle.pa_tree.specs.Views.{declarator_tree};
-ghost use Rattle.pa_reading.specs.Nests.{NestsExpr, NestsSpecs, NestsDeclarator, ReadsDeclarator, MeasuredDeclarator};
-ghost use Rattle.pa_reading.specs.Parser as parser;
-ghost use Rattle.pa_reading.specs.Parts.{ReadsPart, Measures, maybe_expr_tree};
+ghost use Rattle.pa_pspec.specs.Measures.{Gives, Measures};
+ghost use Rattle.pa_pspec.specs.Rules as rule;
+ghost use Rattle.pa_pspec.specs.Suffixes.{absent_at, suffix_ahead, suffix_shown};
+ghost use Rattle.pa_pspec.specs.Trees as tree;
 ghost use Rattle.pa_reading.specs.Reading as reading;
-ghost use Rattle.pa_pspec.specs.Suffixes.{absent_at, suffix_ahead, suffix_of, suffix_shown};
-ghost use Rattle.pa_lex.specs.declared.token.Kind.TheVariants as kind;
 
+use crate::measured::Measured;
 use crate::parts::Parts;
-use pa_lex::{Kind, Punct, Token};
-use pa_num::Name;
+use crate::type_rules::TypeRules;
+use pa_lex::{Kind, NameNumber, Punct, Token};
 use pa_reading::{Naming, ParseError, Reader, SynRule, TypeNames, begins_type, is_mark, needs};
-use pa_tree::{COND_LEVEL, Declarator, Expr, Specs};
+use pa_tree::{COND_LEVEL, Declarator, Expr};
 use sqlite_items::Boxed;
-use std::alloc::Global;
 
 /// A part behind a declarator.
 #[derive(Clone, Copy)]
@@ -40,15 +39,17 @@ fn next_suffix<'t>(r: &Reader<'t>) -> Option<(Suffix, &'t Token)>
 
 /// A declarator without a name, at this place, or the rule that wants one.
 #[tactic(auto, using(pa_tree::proofs::Views::expr_views))]
-fn absent(end: u32, name: Naming) -> Result<(Declarator, u32), ParseError>
-    ensures value { (c : _) → ReadsDeclarator (absent_at name end c) result c }
-    ensures measured { MeasuredDeclarator 0 result }
+fn absent(end: u32, name: Naming) -> Result<Measured<Declarator>, ParseError>
+    ensures value { (c : _) → Gives tree.declarator (absent_at name end c) result c }
+    ensures measured { Measures tree.declarator 0 result }
 {
     if !name.takes_none() {
         return Err(ParseError::Broken(SynRule::S1));
     }
-    let declarator = Declarator::Absent { from: end, to: end };
-    Ok((declarator, 0))
+    Ok(Measured {
+        tree: Declarator::Absent { from: end, to: end },
+        height: 0,
+    })
 }
 
 /// A declarator that has a name, a `*` or another part begins with this token.
@@ -56,7 +57,7 @@ fn begins_declarator(names: &TypeNames, name: Naming, kind: &Kind) -> bool
     ensures { result ≡ reading.begins_declarator names.now name kind.now }
 {
     match kind {
-        Kind::Name(n) => name.takes_name() && !names.contains(n),
+        Kind::Name(n) => name.takes_name() && !names.contains(*n),
         Kind::Punct(Punct::Star | Punct::LeftParenthesis) => true,
         Kind::Punct(Punct::LeftBracket) => name.takes_none(),
         _ => false,
@@ -69,9 +70,9 @@ pub fn bare_declarator(
     names: &TypeNames,
     r: &Reader<'_>,
     name: Naming,
-) -> Result<(Declarator, u32), ParseError>
-    ensures value { ReadsDeclarator (reading.bare_declarator names.now name r.now) result r.now }
-    ensures measured { MeasuredDeclarator 0 result }
+) -> Result<Measured<Declarator>, ParseError>
+    ensures value { Gives tree.declarator (reading.bare_declarator names.now name r.now) result r.now }
+    ensures measured { Measures tree.declarator 0 result }
 {
     match r.peek() {
         Some(t) if begins_declarator(names, name, &t.kind) => {
@@ -81,30 +82,24 @@ pub fn bare_declarator(
     }
 }
 
-impl<
-    'a,
-    F: Fn(Global, &TypeNames, &mut Reader<'_>, u32, u8) -> Result<(Expr, u32), ParseError>,
-    H: Fn(Global, &TypeNames, &mut Reader<'_>, u32, bool) -> Result<(Specs, u32), ParseError>,
-    I: Fn(
-        Global,
-        &TypeNames,
-        &mut Reader<'_>,
-        u32,
-        Naming,
-    ) -> Result<(Declarator, u32), ParseError>,
-> Parts<'a, F, H, I> {
+impl<'a, P: Parts> TypeRules<'a, P> {
     /// The length of an array, if one is written, and its height.
-    fn length(&self, r: &mut Reader<'_>) -> Result<(Option<Boxed<Expr>>, u32), ParseError>
-        requires expr { NestsExpr self.now.depth (F.pre self.now.expr) (F.post self.now.expr) }
-        ensures value { ReadsPart maybe_expr_tree (parser.look (reading.length_at self.now.names.now self.now.depth (reading.parsers self.now.names.now self.now.depth)) r.old) result r.new }
-        ensures measured { Measures maybe_expr_tree maybe_expr_height self.now.depth result }
+    fn array_length(&self, r: &mut Reader<'_>) -> Result<Measured<Option<Boxed<Expr>>>, ParseError>
+        requires exprs { P.reads_exprs self.now.parts self.now.at.depth }
+        ensures value { Gives tree.maybe_expr (rule.array_length self.now.at r.old) result r.new }
+        ensures measured { Measures tree.maybe_expr self.now.at.depth result }
     {
         if r.sees(Punct::RightBracket) {
-            return Ok((None, 0));
+            return Ok(Measured {
+                tree: None,
+                height: 0,
+            });
         }
-        let (length, height) = self.part(r, COND_LEVEL)?;
-        let length = Boxed::new(self.alloc, length)?;
-        Ok((Some(length), height))
+        let length = self.expr(r, COND_LEVEL)?;
+        Ok(Measured {
+            tree: Some(Boxed::new(self.alloc, length.tree)?),
+            height: length.height,
+        })
     }
 
     /// Behind the `[` of an array part.
@@ -113,27 +108,26 @@ impl<
         &self,
         r: &mut Reader<'_>,
         from: u32,
-        of: (Declarator, u32),
-    ) -> Result<(Declarator, u32), ParseError>
-        requires expr { NestsExpr self.now.depth (F.pre self.now.expr) (F.post self.now.expr) }
-        requires shallow { self.now.depth ≤ 200 }
-        requires of_height { of.1 ≡ declarator_height (declarator_tree of.0) }
-        requires of_fits { of.1 ≤ self.now.depth }
-        ensures value { ReadsDeclarator (reading.array self.now.names.now self.now.depth (reading.parsers self.now.names.now self.now.depth) from (declarator_tree of.0) r.old) result r.new }
-        ensures measured { MeasuredDeclarator (suc self.now.depth) result }
-        ensures taller { IfOk result (λ q. of.1 < q.1) }
+        of: Measured<Declarator>,
+    ) -> Result<Measured<Declarator>, ParseError>
+        requires exprs { P.reads_exprs self.now.parts self.now.at.depth }
+        requires shallow { self.now.at.depth ≤ 200 }
+        requires of_height { of.height ≡ declarator_height (declarator_tree of.tree) }
+        requires of_fits { of.height ≤ self.now.at.depth }
+        ensures value { Gives tree.declarator (rule.array self.now.at from of.tree r.old) result r.new }
+        ensures measured { Measures tree.declarator (suc self.now.at.depth) result }
+        ensures taller { IfOk result (λ m. of.height < m.height) }
     {
-        let (length, height) = self.length(r)?;
+        let length = self.array_length(r)?;
         r.expect(Punct::RightBracket)?;
-        let height = of.1.max(height) + 1;
-        let of = Boxed::new(self.alloc, of.0)?;
+        let height = of.height.max(length.height);
         let array = Declarator::Array {
-            of,
-            length,
+            of: Boxed::new(self.alloc, of.tree)?,
+            length: length.tree,
             from,
             to: r.ended(),
         };
-        Ok((array, height))
+        Ok(Measured::node(array, height))
     }
 
     /// Behind the `(` of a function part.
@@ -142,28 +136,26 @@ impl<
         &self,
         r: &mut Reader<'_>,
         from: u32,
-        of: (Declarator, u32),
-    ) -> Result<(Declarator, u32), ParseError>
-        requires specs { NestsSpecs self.now.depth (H.pre self.now.specs) (H.post self.now.specs) }
-        requires declarator { NestsDeclarator self.now.depth (I.pre self.now.declarator) (I.post self.now.declarator) }
-        requires shallow { self.now.depth ≤ 200 }
-        requires of_height { of.1 ≡ declarator_height (declarator_tree of.0) }
-        requires of_fits { of.1 ≤ self.now.depth }
-        ensures value { ReadsDeclarator (reading.function self.now.names.now self.now.depth (reading.parsers self.now.names.now self.now.depth) from (declarator_tree of.0) r.old) result r.new }
-        ensures measured { MeasuredDeclarator (suc self.now.depth) result }
-        ensures taller { IfOk result (λ q. of.1 < q.1) }
+        of: Measured<Declarator>,
+    ) -> Result<Measured<Declarator>, ParseError>
+        requires types { P.reads_types self.now.parts self.now.at.depth }
+        requires shallow { self.now.at.depth ≤ 200 }
+        requires of_height { of.height ≡ declarator_height (declarator_tree of.tree) }
+        requires of_fits { of.height ≤ self.now.at.depth }
+        ensures value { Gives tree.declarator (rule.function self.now.at from of.tree r.old) result r.new }
+        ensures measured { Measures tree.declarator (suc self.now.at.depth) result }
+        ensures taller { IfOk result (λ m. of.height < m.height) }
     {
-        let (parameters, height) = self.parameters(r)?;
+        let parameters = self.parameters(r)?;
         r.expect(Punct::RightParenthesis)?;
-        let height = of.1.max(height) + 1;
-        let of = Boxed::new(self.alloc, of.0)?;
+        let height = of.height.max(parameters.height);
         let function = Declarator::Function {
-            of,
-            parameters,
+            of: Boxed::new(self.alloc, of.tree)?,
+            parameters: parameters.tree,
             from,
             to: r.ended(),
         };
-        Ok((function, height))
+        Ok(Measured::node(function, height))
     }
 
     /// At the token of a part behind a declarator.
@@ -171,20 +163,19 @@ impl<
         &self,
         r: &mut Reader<'_>,
         from: u32,
-        of: (Declarator, u32),
+        of: Measured<Declarator>,
         suffix: Suffix,
         t: &Token,
-    ) -> Result<(Declarator, u32), ParseError>
-        requires expr { NestsExpr self.now.depth (F.pre self.now.expr) (F.post self.now.expr) }
-        requires specs { NestsSpecs self.now.depth (H.pre self.now.specs) (H.post self.now.specs) }
-        requires declarator { NestsDeclarator self.now.depth (I.pre self.now.declarator) (I.post self.now.declarator) }
-        requires shallow { self.now.depth ≤ 200 }
-        requires of_height { of.1 ≡ declarator_height (declarator_tree of.0) }
-        ensures value { ReadsDeclarator (suffix_of self.now.names.now self.now.depth (reading.parsers self.now.names.now self.now.depth) suffix from (declarator_tree of.0) t.now r.old) result r.new }
-        ensures measured { MeasuredDeclarator (suc self.now.depth) result }
-        ensures taller { IfOk result (λ q. of.1 < q.1) }
+    ) -> Result<Measured<Declarator>, ParseError>
+        requires exprs { P.reads_exprs self.now.parts self.now.at.depth }
+        requires types { P.reads_types self.now.parts self.now.at.depth }
+        requires shallow { self.now.at.depth ≤ 200 }
+        requires of_height { of.height ≡ declarator_height (declarator_tree of.tree) }
+        ensures value { Gives tree.declarator (rule.suffix self.now.at suffix from of.tree t.now r.old) result r.new }
+        ensures measured { Measures tree.declarator (suc self.now.at.depth) result }
+        ensures taller { IfOk result (λ m. of.height < m.height) }
     {
-        needs(of.1, self.depth)?;
+        needs(of.height, self.at.depth)?;
         r.take(t);
         match suffix {
             Suffix::Array => self.array(r, from, of),
@@ -197,19 +188,18 @@ impl<
         &self,
         r: &mut Reader<'_>,
         from: u32,
-        first: (Declarator, u32),
-    ) -> Result<(Declarator, u32), ParseError>
-        requires expr { NestsExpr self.now.depth (F.pre self.now.expr) (F.post self.now.expr) }
-        requires specs { NestsSpecs self.now.depth (H.pre self.now.specs) (H.post self.now.specs) }
-        requires declarator { NestsDeclarator self.now.depth (I.pre self.now.declarator) (I.post self.now.declarator) }
-        requires shallow { self.now.depth ≤ 200 }
-        requires first_height { first.1 ≡ declarator_height (declarator_tree first.0) }
-        requires first_fits { first.1 ≤ suc self.now.depth }
-        ensures value { ReadsDeclarator (reading.suffixes self.now.names.now self.now.depth (reading.parsers self.now.names.now self.now.depth) from (suc self.now.depth) (declarator_tree first.0) r.old) result r.new }
-        ensures measured { MeasuredDeclarator (suc self.now.depth) result }
+        first: Measured<Declarator>,
+    ) -> Result<Measured<Declarator>, ParseError>
+        requires exprs { P.reads_exprs self.now.parts self.now.at.depth }
+        requires types { P.reads_types self.now.parts self.now.at.depth }
+        requires shallow { self.now.at.depth ≤ 200 }
+        requires first_height { first.height ≡ declarator_height (declarator_tree first.tree) }
+        requires first_fits { first.height ≤ suc self.now.at.depth }
+        ensures value { Gives tree.declarator (rule.suffixes self.now.at from first.tree r.old) result r.new }
+        ensures measured { Measures tree.declarator (suc self.now.at.depth) result }
     {
         let mut whole = first;
-        for _turn in 0..self.depth + 1 {
+        for _turn in 0..self.at.depth + 1 {
             let Some(next) = next_suffix(r) else {
                 return Ok(whole);
             };
@@ -228,23 +218,23 @@ impl<
         r: &mut Reader<'_>,
         name: Naming,
         from: u32,
-    ) -> Result<(Declarator, u32), ParseError>
-        requires expr { NestsExpr self.now.depth (F.pre self.now.expr) (F.post self.now.expr) }
-        requires declarator { NestsDeclarator self.now.depth (I.pre self.now.declarator) (I.post self.now.declarator) }
-        requires shallow { self.now.depth ≤ 200 }
-        ensures value { ReadsDeclarator (reading.pointer self.now.names.now self.now.depth (reading.parsers self.now.names.now self.now.depth) name from r.old) result r.new }
-        ensures measured { MeasuredDeclarator (suc self.now.depth) result }
+    ) -> Result<Measured<Declarator>, ParseError>
+        requires exprs { P.reads_exprs self.now.parts self.now.at.depth }
+        requires types { P.reads_types self.now.parts self.now.at.depth }
+        requires shallow { self.now.at.depth ≤ 200 }
+        ensures value { Gives tree.declarator (rule.pointer self.now.at name from r.old) result r.new }
+        ensures measured { Measures tree.declarator (suc self.now.at.depth) result }
     {
-        let (qualifiers, qualifiers_height) = self.qualifiers(r)?;
-        let (of, height) = self.declarator_part(r, name)?;
-        let of = Boxed::new(self.alloc, of)?;
+        let qualifiers = self.qualifiers(r)?;
+        let of = self.declarator(r, name)?;
+        let height = qualifiers.height.max(of.height);
         let pointer = Declarator::Pointer {
-            qualifiers,
-            of,
+            qualifiers: qualifiers.tree,
+            of: Boxed::new(self.alloc, of.tree)?,
             from,
             to: r.ended(),
         };
-        Ok((pointer, qualifiers_height.max(height) + 1))
+        Ok(Measured::node(pointer, height))
     }
 
     /// Behind the `(` of a declarator in parentheses.
@@ -254,21 +244,21 @@ impl<
         r: &mut Reader<'_>,
         name: Naming,
         from: u32,
-    ) -> Result<(Declarator, u32), ParseError>
-        requires declarator { NestsDeclarator self.now.depth (I.pre self.now.declarator) (I.post self.now.declarator) }
-        requires shallow { self.now.depth ≤ 200 }
-        ensures value { ReadsDeclarator (reading.grouped self.now.names.now self.now.depth (reading.parsers self.now.names.now self.now.depth) name from r.old) result r.new }
-        ensures measured { MeasuredDeclarator (suc self.now.depth) result }
+    ) -> Result<Measured<Declarator>, ParseError>
+        requires types { P.reads_types self.now.parts self.now.at.depth }
+        requires shallow { self.now.at.depth ≤ 200 }
+        ensures value { Gives tree.declarator (rule.grouped self.now.at name from r.old) result r.new }
+        ensures measured { Measures tree.declarator (suc self.now.at.depth) result }
     {
-        let (inner, height) = self.declarator_part(r, name)?;
+        let inner = self.declarator(r, name)?;
         r.expect(Punct::RightParenthesis)?;
-        let inner = Boxed::new(self.alloc, inner)?;
+        let height = inner.height;
         let grouped = Declarator::Grouped {
-            inner,
+            inner: Boxed::new(self.alloc, inner.tree)?,
             from,
             to: r.ended(),
         };
-        Ok((grouped, height + 1))
+        Ok(Measured::node(grouped, height))
     }
 
     /// Behind a `(` that may begin parameters of no name.
@@ -279,17 +269,19 @@ impl<
         name: Naming,
         from: u32,
         end: u32,
-    ) -> Result<(Declarator, u32), ParseError>
-        requires specs { NestsSpecs self.now.depth (H.pre self.now.specs) (H.post self.now.specs) }
-        requires declarator { NestsDeclarator self.now.depth (I.pre self.now.declarator) (I.post self.now.declarator) }
-        requires shallow { self.now.depth ≤ 200 }
-        ensures value { ReadsDeclarator (parser.look (reading.open_at self.now.names.now self.now.depth (reading.parsers self.now.names.now self.now.depth) name from end) r.old) result r.new }
-        ensures measured { MeasuredDeclarator (suc self.now.depth) result }
+    ) -> Result<Measured<Declarator>, ParseError>
+        requires types { P.reads_types self.now.parts self.now.at.depth }
+        requires shallow { self.now.at.depth ≤ 200 }
+        ensures value { Gives tree.declarator (rule.bracketed self.now.at name from end r.old) result r.new }
+        ensures measured { Measures tree.declarator (suc self.now.at.depth) result }
     {
-        let parameters = begins_type(self.names, r.peek()) || r.sees(Punct::RightParenthesis);
+        let parameters = begins_type(self.at.names, r.peek()) || r.sees(Punct::RightParenthesis);
         if name.takes_none() && parameters {
-            let absent = Declarator::Absent { from: end, to: end };
-            return self.function(r, from, (absent, 0));
+            let absent = Measured {
+                tree: Declarator::Absent { from: end, to: end },
+                height: 0,
+            };
+            return self.function(r, from, absent);
         }
         self.grouped(r, name, from)
     }
@@ -302,16 +294,15 @@ impl<
         name: Naming,
         t: &Token,
         end: u32,
-    ) -> Result<(Declarator, u32), ParseError>
-        requires expr { NestsExpr self.now.depth (F.pre self.now.expr) (F.post self.now.expr) }
-        requires specs { NestsSpecs self.now.depth (H.pre self.now.specs) (H.post self.now.specs) }
-        requires declarator { NestsDeclarator self.now.depth (I.pre self.now.declarator) (I.post self.now.declarator) }
-        requires shallow { self.now.depth ≤ 200 }
-        ensures value { ReadsDeclarator (reading.direct_mark self.now.names.now self.now.depth (reading.parsers self.now.names.now self.now.depth) name t.now end t.now.kind r.old) result r.new }
-        ensures measured { MeasuredDeclarator (suc self.now.depth) result }
+    ) -> Result<Measured<Declarator>, ParseError>
+        requires exprs { P.reads_exprs self.now.parts self.now.at.depth }
+        requires types { P.reads_types self.now.parts self.now.at.depth }
+        requires shallow { self.now.at.depth ≤ 200 }
+        ensures value { Gives tree.declarator (rule.marked_declarator self.now.at name t.now end r.old) result r.new }
+        ensures measured { Measures tree.declarator (suc self.now.at.depth) result }
     {
         if is_mark(&t.kind, Punct::LeftParenthesis) {
-            needs(name.least(), self.depth)?;
+            needs(name.least(), self.at.depth)?;
             r.take(t);
             let first = self.bracketed(r, name, t.from, end)?;
             return self.suffixes(r, t.from, first);
@@ -319,8 +310,11 @@ impl<
         if !name.takes_none() {
             return Err(ParseError::Broken(SynRule::S1));
         }
-        let absent = Declarator::Absent { from: end, to: end };
-        self.suffixes(r, t.from, (absent, 0))
+        let absent = Measured {
+            tree: Declarator::Absent { from: end, to: end },
+            height: 0,
+        };
+        self.suffixes(r, t.from, absent)
     }
 
     /// At a name.
@@ -331,23 +325,22 @@ impl<
         name: Naming,
         t: &Token,
         end: u32,
-        n: &Name,
-    ) -> Result<(Declarator, u32), ParseError>
-        requires expr { NestsExpr self.now.depth (F.pre self.now.expr) (F.post self.now.expr) }
-        requires specs { NestsSpecs self.now.depth (H.pre self.now.specs) (H.post self.now.specs) }
-        requires declarator { NestsDeclarator self.now.depth (I.pre self.now.declarator) (I.post self.now.declarator) }
-        requires shallow { self.now.depth ≤ 200 }
-        ensures value { ReadsDeclarator (reading.direct_by self.now.names.now self.now.depth (reading.parsers self.now.names.now self.now.depth) name t.now end (kind.Name n.now) r.old) result r.new }
-        ensures measured { MeasuredDeclarator (suc self.now.depth) result }
+        n: NameNumber,
+    ) -> Result<Measured<Declarator>, ParseError>
+        requires exprs { P.reads_exprs self.now.parts self.now.at.depth }
+        requires types { P.reads_types self.now.parts self.now.at.depth }
+        requires shallow { self.now.at.depth ≤ 200 }
+        ensures value { Gives tree.declarator (rule.named_declarator self.now.at name t.now end n r.old) result r.new }
+        ensures measured { Measures tree.declarator (suc self.now.at.depth) result }
     {
-        if name.takes_name() && !self.names.contains(n) {
+        if name.takes_name() && !self.at.names.contains(n) {
             let named = Declarator::Named {
-                name: Name::from_slice(self.alloc, n.as_slice())?,
+                name: n,
                 from: t.from,
                 to: t.to,
             };
             r.take(t);
-            return self.suffixes(r, t.from, (named, 1));
+            return self.suffixes(r, t.from, Measured::node(named, 0));
         }
         absent(end, name)
     }
@@ -358,13 +351,12 @@ impl<
         &self,
         r: &mut Reader<'_>,
         name: Naming,
-    ) -> Result<(Declarator, u32), ParseError>
-        requires expr { NestsExpr self.now.depth (F.pre self.now.expr) (F.post self.now.expr) }
-        requires specs { NestsSpecs self.now.depth (H.pre self.now.specs) (H.post self.now.specs) }
-        requires declarator { NestsDeclarator self.now.depth (I.pre self.now.declarator) (I.post self.now.declarator) }
-        requires shallow { self.now.depth ≤ 200 }
-        ensures value { ReadsDeclarator (reading.declarator_level self.now.names.now self.now.depth (reading.parsers self.now.names.now self.now.depth) name r.old) result r.new }
-        ensures measured { MeasuredDeclarator (suc self.now.depth) result }
+    ) -> Result<Measured<Declarator>, ParseError>
+        requires exprs { P.reads_exprs self.now.parts self.now.at.depth }
+        requires types { P.reads_types self.now.parts self.now.at.depth }
+        requires shallow { self.now.at.depth ≤ 200 }
+        ensures value { Gives tree.declarator (rule.declarator_level self.now.at name r.old) result r.new }
+        ensures measured { Measures tree.declarator (suc self.now.at.depth) result }
     {
         let end = r.ended();
         let Some(t) = r.peek() else {
@@ -372,11 +364,11 @@ impl<
         };
         match &t.kind {
             Kind::Punct(Punct::Star) => {
-                needs(name.least(), self.depth)?;
+                needs(name.least(), self.at.depth)?;
                 r.take(t);
                 self.pointer(r, name, t.from)
             }
-            Kind::Name(n) => self.named_declarator(r, name, t, end, n),
+            Kind::Name(n) => self.named_declarator(r, name, t, end, *n),
             _ => self.marked_declarator(r, name, t, end),
         }
     }

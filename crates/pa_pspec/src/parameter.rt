@@ -1,23 +1,21 @@
 //! The parts of a function's declarator (C11 6.7.6.3).
 
 ghost use Rattle.std.specs.Prelude.{◌≡◌, ◌≤◌, ◌∷◌, [], map, length, ◌==◌};
-ghost use Rattle.pa_lex.specs.declared.token.Punct.TheVariants as p;
-ghost use Rattle.pa_tree.specs.Heights.{parameter_height, parameters_height};
+ghost use Rattle.pa_tree.specs.Heights.{parameter_height};
 ghost use Rattle.pa_tree.specs.Spells as grammar;
-ghost use Rattle.pa_tree.specs.Views.{base_tree, declarator_tree, parameter_tree, parameters_of, parameters_tree};
-ghost use Rattle.pa_reading.specs.Nests.{NestsSpecs, NestsDeclarator};
-ghost use Rattle.pa_reading.specs.Parser as parser;
-ghost use Rattle.pa_reading.specs.Commas.{behind_comma};
-ghost use Rattle.pa_reading.specs.Parts.{ReadsPart, Measures, height_of_parameters};
-ghost use Rattle.pa_reading.specs.Reading as reading;
+ghost use Rattle.pa_tree.specs.Views.{base_tree, declarator_tree, parameter_tree, parameters_of};
+ghost use Rattle.pa_pspec.specs.Measures.{Gives, Measures};
+ghost use Rattle.pa_pspec.specs.Rules as rule;
+ghost use Rattle.pa_pspec.specs.Trees as tree;
 ghost use Rattle.pa_pspec.specs.Voids.{is_void_tree, is_absent_tree};
 
+use crate::measured::Measured;
 use crate::parts::Parts;
+use crate::type_rules::TypeRules;
 use pa_lex::Punct;
-use pa_reading::{Naming, ParseError, Reader, TypeNames};
-use pa_tree::{Base, Declarator, Expr, Parameter, Parameters, Qualifier, Specs};
+use pa_reading::{Naming, ParseError, Reader};
+use pa_tree::{Base, Declarator, Parameter, Parameters, Qualifier};
 use sqlite_items::Items;
-use std::alloc::Global;
 
 /// There are no qualifiers.
 fn are_none(qualifiers: &Items<Qualifier>) -> bool
@@ -79,44 +77,32 @@ fn is_only_void(parameters: &[Parameter]) -> bool
     }
 }
 
-impl<
-    'a,
-    F: Fn(Global, &TypeNames, &mut Reader<'_>, u32, u8) -> Result<(Expr, u32), ParseError>,
-    H: Fn(Global, &TypeNames, &mut Reader<'_>, u32, bool) -> Result<(Specs, u32), ParseError>,
-    I: Fn(
-        Global,
-        &TypeNames,
-        &mut Reader<'_>,
-        u32,
-        Naming,
-    ) -> Result<(Declarator, u32), ParseError>,
-> Parts<'a, F, H, I> {
+impl<'a, P: Parts> TypeRules<'a, P> {
     /// A parameter.
     #[tactic(auto, using(pa_tree::proofs::Views::expr_views), unfolding(pa_reading::specs::Reading::parameter))]
-    fn parameter(&self, r: &mut Reader<'_>) -> Result<(Parameter, u32), ParseError>
-        requires specs { NestsSpecs self.now.depth (H.pre self.now.specs) (H.post self.now.specs) }
-        requires declarator { NestsDeclarator self.now.depth (I.pre self.now.declarator) (I.post self.now.declarator) }
-        ensures value { ReadsPart parameter_tree (reading.parameter self.now.names.now self.now.depth (reading.parsers self.now.names.now self.now.depth) r.old) result r.new }
-        ensures measured { Measures parameter_tree parameter_height self.now.depth result }
+    fn parameter(&self, r: &mut Reader<'_>) -> Result<Measured<Parameter>, ParseError>
+        requires types { P.reads_types self.now.parts self.now.at.depth }
+        ensures value { Gives tree.parameter (rule.parameter self.now.at r.old) result r.new }
+        ensures measured { Measures tree.parameter self.now.at.depth result }
     {
         let from = r.begin();
-        let (specs, specs_height) = self.specs_part(r, false)?;
-        let (declarator, height) = self.declarator_part(r, Naming::Either)?;
-        let parameter = Parameter {
-            specs,
-            declarator,
+        let specs = self.specs(r, false)?;
+        let declarator = self.declarator(r, Naming::Either)?;
+        let height = specs.height.max(declarator.height);
+        let tree = Parameter {
+            specs: specs.tree,
+            declarator: declarator.tree,
             from,
             to: r.ended(),
         };
-        Ok((parameter, specs_height.max(height)))
+        Ok(Measured { tree, height })
     }
 
     /// One more parameter, behind a comma.
-    fn next_parameter(&self, r: &mut Reader<'_>) -> Result<(Parameter, u32), ParseError>
-        requires specs { NestsSpecs self.now.depth (H.pre self.now.specs) (H.post self.now.specs) }
-        requires declarator { NestsDeclarator self.now.depth (I.pre self.now.declarator) (I.post self.now.declarator) }
-        ensures value { ReadsPart parameter_tree ((behind_comma (reading.parameter self.now.names.now self.now.depth (reading.parsers self.now.names.now self.now.depth))) r.old) result r.new }
-        ensures measured { Measures parameter_tree parameter_height self.now.depth result }
+    fn next_parameter(&self, r: &mut Reader<'_>) -> Result<Measured<Parameter>, ParseError>
+        requires types { P.reads_types self.now.parts self.now.at.depth }
+        ensures value { Gives tree.parameter (rule.next_parameter self.now.at r.old) result r.new }
+        ensures measured { Measures tree.parameter self.now.at.depth result }
     {
         r.expect(Punct::Comma)?;
         self.parameter(r)
@@ -126,50 +112,55 @@ impl<
     fn more_parameters(
         &self,
         r: &mut Reader<'_>,
-        first: (Parameter, u32),
-    ) -> Result<(Items<Parameter>, u32), ParseError>
-        requires specs { NestsSpecs self.now.depth (H.pre self.now.specs) (H.post self.now.specs) }
-        requires declarator { NestsDeclarator self.now.depth (I.pre self.now.declarator) (I.post self.now.declarator) }
-        requires first_height { first.1 ≡ parameter_height (parameter_tree first.0) }
-        requires first_fits { first.1 ≤ self.now.depth }
-        ensures value { ReadsPart (map parameter_tree) (parser.many (parser.sees p.Comma) (behind_comma (reading.parameter self.now.names.now self.now.depth (reading.parsers self.now.names.now self.now.depth))) (parameter_tree first.0 ∷ []) r.old) result r.new }
-        ensures measured { Measures (map parameter_tree) height_of_parameters self.now.depth result }
+        first: Measured<Parameter>,
+    ) -> Result<Measured<Items<Parameter>>, ParseError>
+        requires types { P.reads_types self.now.parts self.now.at.depth }
+        requires first_height { first.height ≡ parameter_height (parameter_tree first.tree) }
+        requires first_fits { first.height ≤ self.now.at.depth }
+        ensures value { Gives tree.parameter_list (rule.more_parameters self.now.at first.tree r.old) result r.new }
+        ensures measured { Measures tree.parameter_list self.now.at.depth result }
     {
-        let mut height = first.1;
+        let mut height = first.height;
         let mut all = Items::new(self.alloc);
-        all.push(first.0)?;
+        all.push(first.tree)?;
         'parameters: while r.sees(Punct::Comma) {
-            let (parameter, parameter_height) = self.next_parameter(r)?;
-            all.push(parameter)?;
-            height = height.max(parameter_height);
+            let parameter = self.next_parameter(r)?;
+            all.push(parameter.tree)?;
+            height = height.max(parameter.height);
         }
-        Ok((all, height))
+        Ok(Measured { tree: all, height })
     }
 
     /// What stands between the parentheses, and its height.
     #[tactic(auto, using(pa_tree::proofs::Views::expr_views))]
-    pub fn parameters(&self, r: &mut Reader<'_>) -> Result<(Parameters, u32), ParseError>
-        requires specs { NestsSpecs self.now.depth (H.pre self.now.specs) (H.post self.now.specs) }
-        requires declarator { NestsDeclarator self.now.depth (I.pre self.now.declarator) (I.post self.now.declarator) }
-        ensures value { ReadsPart parameters_tree (parser.look (reading.parameters_at self.now.names.now self.now.depth (reading.parsers self.now.names.now self.now.depth)) r.old) result r.new }
-        ensures measured { Measures parameters_tree parameters_height self.now.depth result }
+    pub fn parameters(&self, r: &mut Reader<'_>) -> Result<Measured<Parameters>, ParseError>
+        requires types { P.reads_types self.now.parts self.now.at.depth }
+        ensures value { Gives tree.parameters (rule.parameters self.now.at r.old) result r.new }
+        ensures measured { Measures tree.parameters self.now.at.depth result }
     {
         let from = r.begin();
         if r.sees(Punct::RightParenthesis) {
             let end = r.ended();
-            return Ok((Parameters::Empty { from: end, to: end }, 0));
+            return Ok(Measured {
+                tree: Parameters::Empty { from: end, to: end },
+                height: 0,
+            });
         }
         let first = self.parameter(r)?;
-        let (parameters, height) = self.more_parameters(r, first)?;
+        let parameters = self.more_parameters(r, first)?;
         let to = r.ended();
-        if is_only_void(parameters.as_slice()) {
-            return Ok((Parameters::OnlyVoid { from, to }, 0));
+        if is_only_void(parameters.tree.as_slice()) {
+            return Ok(Measured {
+                tree: Parameters::OnlyVoid { from, to },
+                height: 0,
+            });
         }
-        let parameters = Parameters::Listed {
-            parameters,
+        let height = parameters.height;
+        let tree = Parameters::Listed {
+            parameters: parameters.tree,
             from,
             to,
         };
-        Ok((parameters, height))
+        Ok(Measured { tree, height })
     }
 }

@@ -1,21 +1,18 @@
 //! What a type is, its qualifiers aside (C11 6.7.2), and specifiers whole.
 
-ghost use Rattle.std.specs.Prelude.{◌≡◌, ◌≤◌, ◌-◌, map};
-ghost use Rattle.pa_tree.specs.Heights.{base_height};
-ghost use Rattle.pa_tree.specs.Views.{base_tree};
-ghost use Rattle.pa_pspec.specs.Bodies.{body_of, alone_of};
-ghost use Rattle.pa_reading.specs.Nests.{NestsExpr, NestsSpecs, NestsDeclarator, ReadsSpecs, MeasuredSpecs};
-ghost use Rattle.pa_reading.specs.Parser as parser;
-ghost use Rattle.pa_reading.specs.Parts.{ReadsPart, Measures};
-ghost use Rattle.pa_reading.specs.Reading as reading;
+ghost use Rattle.std.specs.Prelude.{◌≤◌};
+ghost use Rattle.pa_pspec.specs.Measures.{Inside, Gives, Measures};
+ghost use Rattle.pa_pspec.specs.Rules as rule;
+ghost use Rattle.pa_pspec.specs.Trees as tree;
 
+use crate::at::At;
+use crate::measured::Measured;
 use crate::parts::Parts;
+use crate::type_rules::TypeRules;
 use crate::word::integer_words;
 use pa_lex::{Keyword, Kind, Punct, Token};
-use pa_num::Name;
-use pa_reading::{Naming, ParseError, Reader, SynRule, TypeNames, plain_name};
-use pa_tree::{Base, Declarator, Expr, IntegerWord, Specs, Tag};
-use std::alloc::Global;
+use pa_reading::{ParseError, Reader, SynRule, needs, plain_name};
+use pa_tree::{Base, IntegerWord, Specs, Tag};
 
 /// What a tag names.
 #[derive(Clone, Copy)]
@@ -24,36 +21,34 @@ pub enum Tagged {
     Enum,
 }
 
-impl<
-    'a,
-    F: Fn(Global, &TypeNames, &mut Reader<'_>, u32, u8) -> Result<(Expr, u32), ParseError>,
-    H: Fn(Global, &TypeNames, &mut Reader<'_>, u32, bool) -> Result<(Specs, u32), ParseError>,
-    I: Fn(
-        Global,
-        &TypeNames,
-        &mut Reader<'_>,
-        u32,
-        Naming,
-    ) -> Result<(Declarator, u32), ParseError>,
-> Parts<'a, F, H, I> {
-    /// A body of this kind.
+impl<'a, P: Parts + Copy> TypeRules<'a, P> {
+    /// A body of this kind, whose parts stand one level deeper.
+    #[tactic(auto, using(crate::proofs::Bodies::struct_deeper, crate::proofs::Bodies::enum_deeper))]
     fn body(
         &self,
         r: &mut Reader<'_>,
         kind: Tagged,
         from: u32,
         tag: Option<Tag>,
-    ) -> Result<(Base, u32), ParseError>
-        requires expr { 2 ≤ self.now.depth → NestsExpr (self.now.depth - 1) (F.pre self.now.expr) (F.post self.now.expr) }
-        requires specs { 2 ≤ self.now.depth → NestsSpecs (self.now.depth - 1) (H.pre self.now.specs) (H.post self.now.specs) }
-        requires declarator { 2 ≤ self.now.depth → NestsDeclarator (self.now.depth - 1) (I.pre self.now.declarator) (I.post self.now.declarator) }
-        requires shallow { self.now.depth ≤ 200 }
-        ensures value { ReadsPart base_tree (body_of self.now.names.now self.now.depth (reading.parsers self.now.names.now self.now.depth) (reading.parsers self.now.names.now (self.now.depth - 1)) kind from tag r.old) result r.new }
-        ensures measured { Measures base_tree base_height self.now.depth result }
+    ) -> Result<Measured<Base>, ParseError>
+        requires exprs_inside { Inside (P.reads_exprs self.now.parts) self.now.at.depth }
+        requires types_inside { Inside (P.reads_types self.now.parts) self.now.at.depth }
+        requires shallow { self.now.at.depth ≤ 200 }
+        ensures value { Gives tree.base (rule.body self.now.at kind from tag r.old) result r.new }
+        ensures measured { Measures tree.base self.now.at.depth result }
     {
+        needs(2, self.at.depth)?;
+        let inside = TypeRules {
+            alloc: self.alloc,
+            at: At {
+                names: self.at.names,
+                depth: self.at.depth - 1,
+            },
+            parts: self.parts,
+        };
         match kind {
-            Tagged::Struct => self.struct_body(r, from, tag),
-            Tagged::Enum => self.enum_body(r, from, tag),
+            Tagged::Struct => inside.struct_body(r, from, tag),
+            Tagged::Enum => inside.enum_body(r, from, tag),
         }
     }
 
@@ -65,27 +60,26 @@ impl<
         kind: Tagged,
         from: u32,
         bodies: bool,
-    ) -> Result<(Base, u32), ParseError>
-        requires expr { 2 ≤ self.now.depth → NestsExpr (self.now.depth - 1) (F.pre self.now.expr) (F.post self.now.expr) }
-        requires specs { 2 ≤ self.now.depth → NestsSpecs (self.now.depth - 1) (H.pre self.now.specs) (H.post self.now.specs) }
-        requires declarator { 2 ≤ self.now.depth → NestsDeclarator (self.now.depth - 1) (I.pre self.now.declarator) (I.post self.now.declarator) }
-        requires shallow { self.now.depth ≤ 200 }
-        ensures value { ReadsPart base_tree (parser.look (reading.struct_at self.now.names.now self.now.depth (reading.parsers self.now.names.now self.now.depth) (reading.parsers self.now.names.now (self.now.depth - 1)) bodies (body_of self.now.names.now self.now.depth (reading.parsers self.now.names.now self.now.depth) (reading.parsers self.now.names.now (self.now.depth - 1)) kind from) (alone_of kind from)) r.old) result r.new }
-        ensures measured { Measures base_tree base_height self.now.depth result }
+    ) -> Result<Measured<Base>, ParseError>
+        requires exprs_inside { Inside (P.reads_exprs self.now.parts) self.now.at.depth }
+        requires types_inside { Inside (P.reads_types self.now.parts) self.now.at.depth }
+        requires shallow { self.now.at.depth ≤ 200 }
+        ensures value { Gives tree.base (rule.tagged self.now.at kind from bodies r.old) result r.new }
+        ensures measured { Measures tree.base self.now.at.depth result }
     {
         if bodies && r.sees(Punct::LeftBrace) {
             return self.body(r, kind, from, None);
         }
-        let tag = plain_name(self.alloc, self.names, r)?;
+        let tag = plain_name(self.at.names, r)?;
         if bodies && r.sees(Punct::LeftBrace) {
             return self.body(r, kind, from, Some(tag));
         }
         let to = r.ended();
-        let base = match kind {
+        let tree = match kind {
             Tagged::Struct => Base::StructTag { tag, from, to },
             Tagged::Enum => Base::EnumTag { tag, from, to },
         };
-        Ok((base, 0))
+        Ok(Measured { tree, height: 0 })
     }
 
     /// At a word of an integer type, or at another keyword.
@@ -95,21 +89,21 @@ impl<
         r: &mut Reader<'_>,
         t: &Token,
         word: Option<IntegerWord>,
-    ) -> Result<(Base, u32), ParseError>
-        ensures value { ReadsPart base_tree (reading.words_at self.now.names.now self.now.depth (reading.parsers self.now.names.now self.now.depth) (reading.parsers self.now.names.now (self.now.depth - 1)) t.now word r.old) result r.new }
-        ensures measured { Measures base_tree base_height self.now.depth result }
+    ) -> Result<Measured<Base>, ParseError>
+        ensures value { Gives tree.base (rule.words self.now.at t.now word r.old) result r.new }
+        ensures measured { Measures tree.base self.now.at.depth result }
     {
         let Some(word) = word else {
             return Err(ParseError::Broken(SynRule::S1));
         };
         r.take(t);
         let words = integer_words(self.alloc, word, r)?;
-        let base = Base::Words {
+        let tree = Base::Words {
             words,
             from: t.from,
             to: r.ended(),
         };
-        Ok((base, 0))
+        Ok(Measured { tree, height: 0 })
     }
 
     /// At a keyword.
@@ -120,23 +114,24 @@ impl<
         t: &Token,
         keyword: Keyword,
         bodies: bool,
-    ) -> Result<(Base, u32), ParseError>
-        requires expr { 2 ≤ self.now.depth → NestsExpr (self.now.depth - 1) (F.pre self.now.expr) (F.post self.now.expr) }
-        requires specs { 2 ≤ self.now.depth → NestsSpecs (self.now.depth - 1) (H.pre self.now.specs) (H.post self.now.specs) }
-        requires declarator { 2 ≤ self.now.depth → NestsDeclarator (self.now.depth - 1) (I.pre self.now.declarator) (I.post self.now.declarator) }
-        requires shallow { self.now.depth ≤ 200 }
-        ensures value { ReadsPart base_tree (reading.base_word self.now.names.now self.now.depth (reading.parsers self.now.names.now self.now.depth) (reading.parsers self.now.names.now (self.now.depth - 1)) bodies t.now keyword r.old) result r.new }
-        ensures measured { Measures base_tree base_height self.now.depth result }
+    ) -> Result<Measured<Base>, ParseError>
+        requires exprs_inside { Inside (P.reads_exprs self.now.parts) self.now.at.depth }
+        requires types_inside { Inside (P.reads_types self.now.parts) self.now.at.depth }
+        requires shallow { self.now.at.depth ≤ 200 }
+        ensures value { Gives tree.base (rule.keyword_base self.now.at bodies t.now keyword r.old) result r.new }
+        ensures measured { Measures tree.base self.now.at.depth result }
     {
         let (from, to) = (t.from, t.to);
         match keyword {
             Keyword::Void => {
                 r.take(t);
-                Ok((Base::Void { from, to }, 0))
+                let tree = Base::Void { from, to };
+                Ok(Measured { tree, height: 0 })
             }
             Keyword::Bool => {
                 r.take(t);
-                Ok((Base::Boolean { from, to }, 0))
+                let tree = Base::Boolean { from, to };
+                Ok(Measured { tree, height: 0 })
             }
             Keyword::Struct => {
                 r.take(t);
@@ -152,27 +147,25 @@ impl<
 
     /// What a type is.
     #[tactic(auto, using(pa_tree::proofs::Views::expr_views), unfolding(pa_reading::specs::Reading::base))]
-    fn base(&self, r: &mut Reader<'_>, bodies: bool) -> Result<(Base, u32), ParseError>
-        requires expr { 2 ≤ self.now.depth → NestsExpr (self.now.depth - 1) (F.pre self.now.expr) (F.post self.now.expr) }
-        requires specs { 2 ≤ self.now.depth → NestsSpecs (self.now.depth - 1) (H.pre self.now.specs) (H.post self.now.specs) }
-        requires declarator { 2 ≤ self.now.depth → NestsDeclarator (self.now.depth - 1) (I.pre self.now.declarator) (I.post self.now.declarator) }
-        requires shallow { self.now.depth ≤ 200 }
-        ensures value { ReadsPart base_tree (reading.base self.now.names.now self.now.depth (reading.parsers self.now.names.now self.now.depth) (reading.parsers self.now.names.now (self.now.depth - 1)) bodies r.old) result r.new }
-        ensures measured { Measures base_tree base_height self.now.depth result }
+    fn base(&self, r: &mut Reader<'_>, bodies: bool) -> Result<Measured<Base>, ParseError>
+        requires exprs_inside { Inside (P.reads_exprs self.now.parts) self.now.at.depth }
+        requires types_inside { Inside (P.reads_types self.now.parts) self.now.at.depth }
+        requires shallow { self.now.at.depth ≤ 200 }
+        ensures value { Gives tree.base (rule.base self.now.at bodies r.old) result r.new }
+        ensures measured { Measures tree.base self.now.at.depth result }
     {
         let Some(t) = r.peek() else {
             return Err(ParseError::Broken(SynRule::S1));
         };
         match &t.kind {
-            Kind::Name(n) if self.names.contains(n) => {
-                let name = Name::from_slice(self.alloc, n.as_slice())?;
+            Kind::Name(name) if self.at.names.contains(*name) => {
                 r.take(t);
-                let base = Base::TypedefName {
-                    name,
+                let tree = Base::TypedefName {
+                    name: *name,
                     from: t.from,
                     to: t.to,
                 };
-                Ok((base, 0))
+                Ok(Measured { tree, height: 0 })
             }
             Kind::Keyword(keyword) => self.keyword_base(r, t, *keyword, bodies),
             _ => Err(ParseError::Broken(SynRule::S1)),
@@ -181,26 +174,30 @@ impl<
 
     /// Specifiers, in the depth itself: their expressions stand in it, and the parts of their bodies in the one below.
     #[tactic(auto, using(pa_tree::proofs::Views::expr_views, crate::proofs::SameSpecs::specs_whole), unfolding(pa_reading::specs::Reading::specs_level))]
-    pub fn specs_level(&self, r: &mut Reader<'_>, bodies: bool) -> Result<(Specs, u32), ParseError>
-        requires here { NestsExpr self.now.depth (F.pre self.now.expr) (F.post self.now.expr) }
-        requires expr { 2 ≤ self.now.depth → NestsExpr (self.now.depth - 1) (F.pre self.now.expr) (F.post self.now.expr) }
-        requires specs { 2 ≤ self.now.depth → NestsSpecs (self.now.depth - 1) (H.pre self.now.specs) (H.post self.now.specs) }
-        requires declarator { 2 ≤ self.now.depth → NestsDeclarator (self.now.depth - 1) (I.pre self.now.declarator) (I.post self.now.declarator) }
-        requires shallow { self.now.depth ≤ 200 }
-        ensures value { ReadsSpecs ((reading.parsers self.now.names.now self.now.depth).specs bodies r.old) result r.new }
-        ensures measured { MeasuredSpecs self.now.depth result }
+    pub fn specs_level(
+        &self,
+        r: &mut Reader<'_>,
+        bodies: bool,
+    ) -> Result<Measured<Specs>, ParseError>
+        requires exprs { P.reads_exprs self.now.parts self.now.at.depth }
+        requires exprs_inside { Inside (P.reads_exprs self.now.parts) self.now.at.depth }
+        requires types_inside { Inside (P.reads_types self.now.parts) self.now.at.depth }
+        requires shallow { self.now.at.depth ≤ 200 }
+        ensures value { Gives tree.specs (rule.specs self.now.at bodies r.old) result r.new }
+        ensures measured { Measures tree.specs self.now.at.depth result }
     {
         let from = r.begin();
-        let (before, before_height) = self.qualifiers(r)?;
-        let (base, base_height) = self.base(r, bodies)?;
-        let (after, after_height) = self.qualifiers(r)?;
-        let specs = Specs {
-            before,
-            base,
-            after,
+        let before = self.qualifiers(r)?;
+        let base = self.base(r, bodies)?;
+        let after = self.qualifiers(r)?;
+        let height = before.height.max(base.height.max(after.height));
+        let tree = Specs {
+            before: before.tree,
+            base: base.tree,
+            after: after.tree,
             from,
             to: r.ended(),
         };
-        Ok((specs, before_height.max(base_height.max(after_height))))
+        Ok(Measured { tree, height })
     }
 }

@@ -1,0 +1,46 @@
+-- What a rule of the grammar answers: the tree that the reading gives, and its height, which is within a depth.
+use Rattle.std.specs.Prelude.{◌≡◌, ◌≤◌, ◌-◌, ℕ, List, [], ◌∷◌, ◌++◌, drop, map, Option, Some, None, Result, IfOk, IfSome}
+use Rattle.pa_tree.specs.declared.expr.Enumerator.{Enumerator}
+use Rattle.pa_tree.specs.declared.expr.Expr.{Expr}
+use Rattle.pa_tree.specs.Cursors.{Cursor}
+use Rattle.pa_tree.specs.Exprs.{ExprTree, EnumeratorTree}
+use Rattle.pa_tree.specs.Views.{enumerator_tree, expr_tree}
+use Rattle.pa_pspec.specs.declared.measured.Measured.{Measured}
+use Rattle.pa_pspec.specs.Trees.{Tree}
+use Rattle.pa_reading.specs.declared.rule.ParseError.{ParseError}
+use Rattle.pa_reading.specs.Parser.{Outcome, Parser, Next, Done, More}
+use Rattle.pa_reading.specs.Reads.{Reads}
+
+abbrev pub Gives : {A T : Type 0} → Tree A T → Outcome T → Result (Measured A) ParseError → Cursor → Type 0
+Gives tree outcome r new = Reads (λ m. tree.view m.tree) outcome r new
+
+abbrev pub HasHeight : {A T : Type 0} → Tree A T → ℕ → Measured A → Type 0
+HasHeight tree d m = (m.height ≡ tree.height (tree.view m.tree)) × (m.height ≤ d)
+
+abbrev pub Measures : {A T : Type 0} → Tree A T → ℕ → Result (Measured A) ParseError → Type 0
+Measures tree d r = IfOk r (HasHeight tree d)
+
+-- the same of a part that may be missing
+abbrev pub MeasuresNext : {A T : Type 0} → Tree A T → ℕ → Result (Option (Measured A)) ParseError → Type 0
+MeasuresNext tree d r = IfOk r (λ found. IfSome found (HasHeight tree d))
+
+-- a step of a list of enumeration constants: one more, or the end
+abbrev pub constant_shown : List EnumeratorTree → Option (Measured Enumerator) → Next (List EnumeratorTree) (List EnumeratorTree)
+constant_shown items None = Done items
+constant_shown items (Some m) = More (items ++ enumerator_tree m.tree ∷ [])
+
+-- one step of a list, behind whichever constants
+abbrev pub ReadsStep : (List EnumeratorTree → Parser (Next (List EnumeratorTree) (List EnumeratorTree))) → Cursor → Result (Option (Measured Enumerator)) ParseError → Cursor → Type 0
+ReadsStep step old r new = (items : _) → Reads (constant_shown items) (step items old) r new
+
+-- the expressions behind the first one of a list
+abbrev pub ReadsBehind : Outcome (List ExprTree) → Result (Measured (List Expr)) ParseError → Cursor → Type 0
+ReadsBehind outcome r new = Reads (λ m. drop 1 (map expr_tree m.tree)) outcome r new
+
+-- the list begins with this expression
+abbrev pub BeginsWith : Expr → Result (Measured (List Expr)) ParseError → Type 0
+BeginsWith first r = IfOk r (λ m. map expr_tree m.tree ≡ expr_tree first ∷ drop 1 (map expr_tree m.tree))
+
+-- where a body has room, its parts may be read one level deeper
+abbrev pub Inside : (ℕ → Type 0) → ℕ → Type 0
+Inside may d = 2 ≤ d → may (d - 1)
