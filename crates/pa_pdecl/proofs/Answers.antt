@@ -3,16 +3,16 @@ use Rattle.std.proofs.Common.{◌≡◌, ◌≤◌, ℕ, max, List, ◌++◌, Ok
 use Rattle.std.proofs.Math.Nat.{le-max_left, le-max_right}
 use Rattle.std.proofs.lemmas.List.{append_cancel_right}
 use Rattle.pa_lex.specs.declared.token.Token.{Token}
-use Rattle.pa_reading.specs.declared.rule.SynRule.{SynRule}
-use Rattle.pa_reading.specs.declared.rule.SynRule.TheVariants.{S1, S2}
-use Rattle.pa_reading.specs.declared.rule.ParseError.TheVariants.{Broken}
+use Rattle.pa_grammar.specs.declared.rule.SynRule.{SynRule}
+use Rattle.pa_grammar.specs.declared.rule.SynRule.TheVariants.{S1, S2}
+use Rattle.pa_grammar.specs.declared.rule.ParseError.TheVariants.{Broken}
 use Rattle.pa_tree.specs.Cursors.{Cursor, start, head, place}
 use Rattle.pa_tree.specs.Files.{Spells}
 use Rattle.pa_tree.specs.Heights.{file_height}
 use Rattle.pa_tree.specs.Stmts.{FileTree}
-use Rattle.pa_reading.specs.Parser.{Stop}
-use Rattle.pa_reading.proofs.Local.{LocalAt, Stops, with_ahead}
-use Rattle.pa_reading.specs.Answers.{most_levels, Asked}
+use Rattle.pa_grammar.specs.Parser.{Stop}
+use Rattle.pa_grammar.proofs.Local.{LocalAt, Stops, with_ahead}
+use Rattle.pa_grammar.specs.Answers.{most_levels, Asked}
 use Rattle.pa_pdecl.specs.Answers.{IsFile, IsRefused}
 use Rattle.pa_pdecl.specs.Reading.{file}
 use Rattle.pa_pdecl.proofs.Deeper.{file_stops}

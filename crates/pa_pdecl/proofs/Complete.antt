@@ -9,7 +9,7 @@ use Rattle.pa_lex.specs.declared.token.Punct.TheVariants as p
 use Rattle.pa_lex.specs.declared.token.Token.{Token}
 use Rattle.pa_tree.specs.declared.file.Storage.{Storage}
 use Rattle.pa_tree.specs.declared.file.Storage.TheVariants as storage
-use Rattle.pa_reading.specs.declared.rule.Naming.TheVariants as naming
+use Rattle.pa_grammar.specs.declared.rule.Naming.TheVariants as naming
 use Rattle.pa_tree.specs.Cursors.{Cursor, start, head, begin, from_of, Takes, Lies, Mark, Word}
 use Rattle.pa_tree.specs.Exprs.{ExprTree, SpecsTree, DeclaratorTree, Named, Absent, Pointer, Grouped, Array, Function}
 use Rattle.pa_tree.specs.Stmts.{InitializerTree, Value, Braced, InitializerTrees, NoInitializers, ConsInitializer, InitDeclaratorTree, OfInitDeclarator, BlockDeclarationTree, OfBlockDeclaration, ForStartTree, Declares, Evaluates, StmtTree, Compound, Expression, If, IfElse, While, DoWhile, For, Switch, Case, Default, Break, Continue, Return, BlockItemTree, DeclarationItem, StatementItem, BlockItemTrees, NoBlockItems, ConsBlockItem, OfDeclaration, OfFunctionDefinition, FileItemTree, Included, Declared, Defined, FileTree}
@@ -17,20 +17,20 @@ use Rattle.pa_tree.specs.Heights.{expr_height, specs_height, declarator_height, 
 use Rattle.pa_tree.specs.Spells.{LastComma, has_name, ExprSpells, SpecsSpell, DeclaratorSpells}
 use Rattle.pa_tree.specs.Files.{is_open, is_compound, MaybeExprSpells, InitializerSpells, CommaInitializers, MaybeInitializerSpells, behind, behind_all, InitDeclaratorSpells, CommaInitDeclarators, InitDeclaratorsSpell, BlockDeclarationSpells, ForStartSpells, StmtSpells, BlockItemSpells, BlockItemsSpell, StorageSpells, storage_word, FileItemSpells, behind_item, FileItemsSpell, Spells}
 use Rattle.pa_tree.specs.Views.{initializers_of, block_items_of}
-use Rattle.pa_reading.specs.Tokens.{is_word, same_mark, same_word}
-use Rattle.pa_reading.specs.Parser.{Parser, Outcome, and_then, ◌>>=◌, ◌>>◌, pure, look, after, ended, sees, mark, Done, More, goes, iterate, many}
-use Rattle.pa_reading.specs.Reading.{parsers, begins_type, begins_type_by, begins_expr_by, not_brace, is_some}
-use Rattle.pa_reading.proofs.Tokens.{same_word-self, same_word-true}
-use Rattle.pa_reading.proofs.Iterated.{Shrinks, one_turn}
-use Rattle.pa_reading.proofs.Chains.{Chain}
-use Rattle.pa_reading.proofs.Local.{Local}
-use Rattle.pa_reading.proofs.Eats.{Eats, item_step-shrinks}
-use Rattle.pa_reading.proofs.Levels.{height_pos, Quiet, quiet_mark, quiet_comma}
-use Rattle.pa_reading.proofs.Heads.{begins_expr, expr_head, no_type, not_begun, specs_type}
-use Rattle.pa_reading.proofs.CompleteSpecs.{ends_specs, ends_declarator, and_false, name_ends, type_no_mark}
-use Rattle.pa_reading.proofs.CompleteDeclarators.{complete}
-use Rattle.pa_reading.proofs.One.{same_answer}
-use Rattle.pa_reading.proofs.Steps.{bind_is, then_is, look_is, look_at_is, after_is, took, taken, roomy, marked, sees_is, sees_not, from_is, close, if_true, if_false, many_is}
+use Rattle.pa_grammar.specs.Tokens.{is_word, same_mark, same_word}
+use Rattle.pa_grammar.specs.Parser.{Parser, Outcome, and_then, ◌>>=◌, ◌>>◌, pure, look, after, ended, sees, mark, Done, More, goes, iterate, many}
+use Rattle.pa_grammar.specs.Reading.{parsers, begins_type, begins_type_by, begins_expr_by, not_brace, is_some}
+use Rattle.pa_grammar.proofs.Tokens.{same_word-self, same_word-true}
+use Rattle.pa_grammar.proofs.Iterated.{Shrinks, one_turn}
+use Rattle.pa_grammar.proofs.Chains.{Chain}
+use Rattle.pa_grammar.proofs.Local.{Local}
+use Rattle.pa_grammar.proofs.Eats.{Eats, item_step-shrinks}
+use Rattle.pa_grammar.proofs.Levels.{height_pos, Quiet, quiet_mark, quiet_comma}
+use Rattle.pa_grammar.proofs.Heads.{begins_expr, expr_head, no_type, not_begun, specs_type}
+use Rattle.pa_grammar.proofs.CompleteSpecs.{ends_specs, ends_declarator, and_false, name_ends, type_no_mark}
+use Rattle.pa_grammar.proofs.CompleteDeclarators.{complete}
+use Rattle.pa_grammar.proofs.One.{same_answer}
+use Rattle.pa_grammar.proofs.Steps.{bind_is, then_is, look_is, look_at_is, after_is, took, taken, roomy, marked, sees_is, sees_not, from_is, close, if_true, if_false, many_is}
 use Rattle.pa_pdecl.specs.Reading as reading
 use Rattle.pa_pdecl.proofs.LocalReading.{more-shrinks, initializer-local, declared-shrinks, item-eats, stmt-local, stmt-eats, file-shrinks}
 

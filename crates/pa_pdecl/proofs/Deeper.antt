@@ -8,17 +8,17 @@ use Rattle.pa_lex.specs.declared.token.Punct.TheVariants as p
 use Rattle.pa_lex.specs.declared.token.Token.{Token}
 use Rattle.pa_tree.specs.declared.file.Storage.{Storage}
 use Rattle.pa_tree.specs.declared.file.Storage.TheVariants as storage
-use Rattle.pa_reading.specs.declared.rule.SynRule.TheVariants.{S1, S2}
-use Rattle.pa_reading.specs.declared.rule.Naming.TheVariants as naming
-use Rattle.pa_reading.specs.declared.rule.ParseError.TheVariants.{Broken}
+use Rattle.pa_grammar.specs.declared.rule.SynRule.TheVariants.{S1, S2}
+use Rattle.pa_grammar.specs.declared.rule.Naming.TheVariants as naming
+use Rattle.pa_grammar.specs.declared.rule.ParseError.TheVariants.{Broken}
 use Rattle.pa_tree.specs.Cursors.{Cursor, head, from_of}
 use Rattle.pa_tree.specs.Exprs.{ExprTree, SpecsTree, DeclaratorTree}
 use Rattle.pa_tree.specs.Stmts.{Expression, InitializerTree, InitDeclaratorTree, StmtTree, FileTree}
 use Rattle.pa_tree.specs.Files.{behind, behind_all, behind_item}
-use Rattle.pa_reading.specs.Tokens.{is_mark}
-use Rattle.pa_reading.specs.Parser.{Parser, Outcome, Stop, and_then, ◌>>=◌, ◌>>◌, pure, refuse, look, ended, mark, sees}
-use Rattle.pa_reading.specs.Reading.{begins_type, not_brace, no_expr, no_room, begins_expr_by, parsers}
-use Rattle.pa_reading.proofs.Deeper.{Kept, Deeper, deeper_same, deeper_bind, deeper_then, deeper_look, deeper_if, deeper_refuse, deeper_after, deeper_mark, deeper_needs, deeper_trans, iterate-deeper, many-deeper, parsers-deeper}
+use Rattle.pa_grammar.specs.Tokens.{is_mark}
+use Rattle.pa_grammar.specs.Parser.{Parser, Outcome, Stop, and_then, ◌>>=◌, ◌>>◌, pure, refuse, look, ended, mark, sees}
+use Rattle.pa_grammar.specs.Reading.{begins_type, not_brace, no_expr, no_room, begins_expr_by, parsers}
+use Rattle.pa_grammar.proofs.Deeper.{Kept, Deeper, deeper_same, deeper_bind, deeper_then, deeper_look, deeper_if, deeper_refuse, deeper_after, deeper_mark, deeper_needs, deeper_trans, iterate-deeper, many-deeper, parsers-deeper}
 use Rattle.pa_pdecl.specs.Reading as reading
 
 deeper_word : (x : Keyword) → Deeper (reading.word x) (reading.word x)

@@ -7,20 +7,20 @@ use Rattle.pa_lex.specs.declared.token.Keyword.TheVariants as w
 use Rattle.pa_lex.specs.declared.token.Punct.TheVariants as p
 use Rattle.pa_lex.specs.declared.token.Token.{Token}
 use Rattle.pa_tree.specs.declared.file.Storage.{Storage}
-use Rattle.pa_reading.specs.declared.rule.SynRule.TheVariants.{S1, S2}
-use Rattle.pa_reading.specs.declared.rule.Naming.TheVariants as naming
+use Rattle.pa_grammar.specs.declared.rule.SynRule.TheVariants.{S1, S2}
+use Rattle.pa_grammar.specs.declared.rule.Naming.TheVariants as naming
 use Rattle.pa_tree.specs.Cursors.{Cursor, head, from_of}
 use Rattle.pa_tree.specs.Exprs.{ExprTree, SpecsTree, DeclaratorTree}
 use Rattle.pa_tree.specs.Stmts.{InitializerTree, InitDeclaratorTree, StmtTree, OfFunctionDefinition, Included, Defined, FileTree}
 use Rattle.pa_tree.specs.Files.{behind, behind_all}
-use Rattle.pa_reading.specs.Tokens.{is_word}
-use Rattle.pa_reading.specs.Parser.{Parser, ◌>>=◌, ◌>>◌, pure, refuse, look, after, needs, sees, More}
-use Rattle.pa_reading.specs.Reading.{begins_type, not_brace}
-use Rattle.pa_reading.proofs.Local.{Local, local_bind, local_then, local_pure, local_refuse, local_ended, local_after, local_look, local_if}
-use Rattle.pa_reading.proofs.Meets.{Meets, meets_bind, meets_then, meets_refuse, meets_look, meets_if, meets_weaken}
-use Rattle.pa_reading.proofs.Iterated.{Shorter, Shrinks, local_iterate}
-use Rattle.pa_reading.proofs.Eats.{Eats, Fewer, eats_left, eats_right, eats_look, eats_mark, local_no_more, meets_after_fewer, meets_needs, mark-local, needs-local, many-local}
-use Rattle.pa_reading.proofs.LocalReading.{parsers-local}
+use Rattle.pa_grammar.specs.Tokens.{is_word}
+use Rattle.pa_grammar.specs.Parser.{Parser, ◌>>=◌, ◌>>◌, pure, refuse, look, after, needs, sees, More}
+use Rattle.pa_grammar.specs.Reading.{begins_type, not_brace}
+use Rattle.pa_grammar.proofs.Local.{Local, local_bind, local_then, local_pure, local_refuse, local_ended, local_after, local_look, local_if}
+use Rattle.pa_grammar.proofs.Meets.{Meets, meets_bind, meets_then, meets_refuse, meets_look, meets_if, meets_weaken}
+use Rattle.pa_grammar.proofs.Iterated.{Shorter, Shrinks, local_iterate}
+use Rattle.pa_grammar.proofs.Eats.{Eats, Fewer, eats_left, eats_right, eats_look, eats_mark, local_no_more, meets_after_fewer, meets_needs, mark-local, needs-local, many-local}
+use Rattle.pa_grammar.proofs.LocalReading.{parsers-local}
 use Rattle.pa_pdecl.specs.Reading as reading
 
 word_at-local : (x : Keyword) (h : Option Token) → Local (reading.word_at x h)

@@ -8,8 +8,8 @@ use Rattle.pa_lex.specs.declared.token.Punct.TheVariants as p
 use Rattle.pa_lex.specs.declared.token.Token.{Token}
 use Rattle.pa_tree.specs.declared.file.Storage.{Storage}
 use Rattle.pa_tree.specs.declared.file.Storage.TheVariants as storage
-use Rattle.pa_reading.specs.declared.rule.SynRule.TheVariants.{S1}
-use Rattle.pa_reading.specs.declared.rule.Naming.TheVariants as naming
+use Rattle.pa_grammar.specs.declared.rule.SynRule.TheVariants.{S1}
+use Rattle.pa_grammar.specs.declared.rule.Naming.TheVariants as naming
 use Rattle.pa_tree.specs.Cursors.{Cursor, start, head, begin, from_of, Shifts, Mark, Word}
 use Rattle.pa_tree.specs.Exprs.{ExprTree, SpecsTree, DeclaratorTree}
 use Rattle.pa_tree.specs.Stmts.{InitializerTree, InitDeclaratorTree, OfInitDeclarator, BlockDeclarationTree, StmtTree, Compound, Expression, If, IfElse, While, DoWhile, For, Switch, Case, Default, Break, Continue, Return, BlockItemTree, OfFunctionDefinition, FileItemTree, Included, Defined, FileTree}
@@ -17,17 +17,17 @@ use Rattle.pa_tree.specs.Heights.{expr_height, specs_height, declarator_height, 
 use Rattle.pa_tree.specs.Spells.{LastComma, has_name, ExprSpells, SpecsSpell, DeclaratorSpells}
 use Rattle.pa_tree.specs.Files.{is_open, is_compound, MaybeExprSpells, InitializerSpells, CommaInitializers, MaybeInitializerSpells, behind, behind_all, InitDeclaratorSpells, CommaInitDeclarators, InitDeclaratorsSpell, BlockDeclarationSpells, ForStartSpells, StmtSpells, BlockItemSpells, BlockItemsSpell, StorageSpells, storage_word, FileItemSpells, behind_item, FileItemsSpell, Spells}
 use Rattle.pa_tree.specs.Views.{initializers_of, block_items_of}
-use Rattle.pa_reading.specs.Tokens.{is_word}
-use Rattle.pa_reading.specs.Parser.{Parser, ◌>>=◌, ◌>>◌, pure, refuse, look, after, ended, needs, sees, mark, More, iterate}
-use Rattle.pa_reading.specs.Reading.{parsers, begins_type, not_brace}
-use Rattle.pa_reading.proofs.Tokens.{is_word-true}
-use Rattle.pa_reading.proofs.Meets.{Meets, meets_bind, meets_then, meets_refuse, meets_look, meets_if, meets_weaken}
-use Rattle.pa_reading.proofs.Eats.{meets_needs}
-use Rattle.pa_reading.proofs.Iterated.{After, meets_iterate}
-use Rattle.pa_reading.proofs.Chains.{Chain, Added, meets_after, shifts, meets_mark, meets_many, nothing_added, one_added}
-use Rattle.pa_reading.proofs.Heads.{not_begun}
-use Rattle.pa_reading.proofs.Sound.{and_left, and_right}
-use Rattle.pa_reading.proofs.SoundSpecs.{sound}
+use Rattle.pa_grammar.specs.Tokens.{is_word}
+use Rattle.pa_grammar.specs.Parser.{Parser, ◌>>=◌, ◌>>◌, pure, refuse, look, after, ended, needs, sees, mark, More, iterate}
+use Rattle.pa_grammar.specs.Reading.{parsers, begins_type, not_brace}
+use Rattle.pa_grammar.proofs.Tokens.{is_word-true}
+use Rattle.pa_grammar.proofs.Meets.{Meets, meets_bind, meets_then, meets_refuse, meets_look, meets_if, meets_weaken}
+use Rattle.pa_grammar.proofs.Eats.{meets_needs}
+use Rattle.pa_grammar.proofs.Iterated.{After, meets_iterate}
+use Rattle.pa_grammar.proofs.Chains.{Chain, Added, meets_after, shifts, meets_mark, meets_many, nothing_added, one_added}
+use Rattle.pa_grammar.proofs.Heads.{not_begun}
+use Rattle.pa_grammar.proofs.Sound.{and_left, and_right}
+use Rattle.pa_grammar.proofs.SoundSpecs.{sound}
 use Rattle.pa_pdecl.specs.Reading as reading
 
 word_by : (x : Keyword) (c : Cursor) (h : Option Token) → h ≡ head c.ahead → Meets (reading.word_at x h) c (λ _ d. Word x c d)

@@ -8,18 +8,18 @@ use Rattle.pa_tree.specs.declared.declaration.Initializer.{Initializer}
 use Rattle.pa_tree.specs.declared.file.FileItem.{FileItem}
 use Rattle.pa_tree.specs.declared.file.Storage.{Storage}
 use Rattle.pa_tree.specs.declared.stmt.BlockItem.{BlockItem}
-use Rattle.pa_reading.specs.declared.rule.Naming.TheVariants as naming
+use Rattle.pa_grammar.specs.declared.rule.Naming.TheVariants as naming
 use Rattle.pa_tree.specs.Cursors.{Cursor, head, from_of}
 use Rattle.pa_tree.specs.Exprs.{SpecsTree, DeclaratorTree}
 use Rattle.pa_tree.specs.Files.{behind, behind_all, behind_item}
 use Rattle.pa_tree.specs.Stmts.{InitializerTree, InitDeclaratorTree, OfInitDeclarator, BlockItemTree, FileItemTree, FileTree}
-use Rattle.pa_reading.specs.Parser.{Parser, Outcome, and_then, More, goes, iterate, look, mark, sees, item_step, many}
+use Rattle.pa_grammar.specs.Parser.{Parser, Outcome, and_then, More, goes, iterate, look, mark, sees, item_step, many}
 use Rattle.pa_tree.specs.declared.declaration.InitDeclarator.{InitDeclarator}
 use Rattle.pa_tree.specs.Views.{initializer_tree, init_declarator_tree, block_item_tree, file_item_tree}
-use Rattle.pa_reading.specs.Reading.{parsers, not_brace}
-use Rattle.pa_reading.proofs.Meets.{IfRead}
-use Rattle.pa_reading.proofs.Iterated.{one_turn}
-use Rattle.pa_reading.proofs.Eats.{Fewer, NoMore, local_no_more, eats_mark, item_step-shrinks}
+use Rattle.pa_grammar.specs.Reading.{parsers, not_brace}
+use Rattle.pa_grammar.proofs.Meets.{IfRead}
+use Rattle.pa_grammar.proofs.Iterated.{one_turn}
+use Rattle.pa_grammar.proofs.Eats.{Fewer, NoMore, local_no_more, eats_mark, item_step-shrinks}
 use Rattle.pa_pdecl.specs.Reading as reading
 use Rattle.pa_pdecl.proofs.LocalReading.{more-shrinks, initializer-local, declared-shrinks, init_declarator-local, item-eats, stmt-local, stmt-eats, file-shrinks, file_item-eats}
 

@@ -3,9 +3,9 @@ use Rattle.std.specs.Prelude.{◌≡◌, ◌≤◌, ℕ, List, ◌++◌, Result,
 use Rattle.pa_num.specs.declared.fault.Fault.{Fault}
 use Rattle.pa_num.specs.declared.fault.Fault.TheVariants.{Refused, Memory}
 use Rattle.pa_lex.specs.declared.token.Token.{Token}
-use Rattle.pa_reading.specs.Answers.{most_levels, Asked}
-use Rattle.pa_reading.specs.declared.rule.ParseError.TheVariants.{Broken}
-use Rattle.pa_reading.specs.declared.rule.SynRule.{SynRule}
+use Rattle.pa_grammar.specs.Answers.{most_levels, Asked}
+use Rattle.pa_grammar.specs.declared.rule.ParseError.TheVariants.{Broken}
+use Rattle.pa_grammar.specs.declared.rule.SynRule.{SynRule}
 use Rattle.pa_tree.specs.Cursors.{Cursor, start, head, place}
 use Rattle.pa_tree.specs.Stmts.{FileTree}
 use Rattle.pa_tree.specs.Files.{Spells}

@@ -5,7 +5,7 @@ use Rattle.pa_tree.specs.Exprs.{ExprTree}
 use Rattle.pa_tree.specs.Stmts.{ForStartTree, StmtTree, For}
 use Rattle.pa_pspec.specs.declared.at.At.{At}
 use Rattle.pa_pdecl.specs.Rules as rule
-use Rattle.pa_reading.specs.Parser.{Parser, ◌>>=◌, ◌>>◌, pure, ended, mark}
+use Rattle.pa_grammar.specs.Parser.{Parser, ◌>>=◌, ◌>>◌, pure, ended, mark}
 
 -- behind the `)`
 abbrev pub for_body : At → ℕ → ForStartTree → Option ExprTree → Option ExprTree → Parser StmtTree

@@ -6,8 +6,8 @@ use Rattle.pa_tree.specs.declared.declaration.Initializer.{Initializer}
 use Rattle.pa_tree.specs.declared.stmt.Stmt.{Stmt}
 use Rattle.pa_tree.specs.Cursors.{Cursor}
 use Rattle.pa_tree.specs.Views.{initializer_tree, stmt_tree}
-use Rattle.pa_reading.specs.declared.rule.ParseError.{ParseError}
-use Rattle.pa_reading.specs.Reads.{Reads}
+use Rattle.pa_grammar.specs.declared.rule.ParseError.{ParseError}
+use Rattle.pa_grammar.specs.Reads.{Reads}
 use Rattle.pa_pdecl.specs.Reading as reading
 
 pub record NestsInitializer (d : ℕ) (pre : Global → Bor (List ℕ) → MutBor Cursor → ℕ → Type 0)

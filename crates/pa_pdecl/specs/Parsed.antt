@@ -4,7 +4,7 @@ use Rattle.pa_num.specs.declared.fault.Fault.{Fault}
 use Rattle.pa_lex.specs.declared.token.Token.{Token}
 use Rattle.pa_tree.specs.declared.file.File.{File}
 use Rattle.pa_tree.specs.Views.{file_tree}
-use Rattle.pa_reading.specs.declared.rule.SynRule.{SynRule}
+use Rattle.pa_grammar.specs.declared.rule.SynRule.{SynRule}
 use Rattle.pa_pdecl.specs.Answers.{IsAnswer}
 
 abbrev pub IsParsed : List Token → Result File (Fault SynRule) → Type 0

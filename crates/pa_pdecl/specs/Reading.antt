@@ -8,16 +8,16 @@ use Rattle.pa_lex.specs.declared.token.Punct.TheVariants as p
 use Rattle.pa_lex.specs.declared.token.Token.{Token}
 use Rattle.pa_tree.specs.declared.file.Storage.{Storage}
 use Rattle.pa_tree.specs.declared.file.Storage.TheVariants as storage
-use Rattle.pa_reading.specs.declared.rule.SynRule.TheVariants.{S1, S2}
-use Rattle.pa_reading.specs.declared.rule.Naming.TheVariants as naming
+use Rattle.pa_grammar.specs.declared.rule.SynRule.TheVariants.{S1, S2}
+use Rattle.pa_grammar.specs.declared.rule.Naming.TheVariants as naming
 use Rattle.pa_tree.specs.Cursors.{from_of}
 use Rattle.pa_tree.specs.Exprs.{ExprTree, SpecsTree, DeclaratorTree}
 use Rattle.pa_tree.specs.Stmts.{InitializerTree, Value, Braced, InitDeclaratorTree, OfInitDeclarator, BlockDeclarationTree, OfBlockDeclaration, ForStartTree, Declares, Evaluates, StmtTree, Compound, Expression, If, IfElse, While, DoWhile, For, Switch, Case, Default, Break, Continue, Return, BlockItemTree, DeclarationItem, StatementItem, OfDeclaration, OfFunctionDefinition, FileItemTree, Included, Declared, Defined, FileTree}
 use Rattle.pa_tree.specs.Views.{initializers_of, block_items_of}
 use Rattle.pa_tree.specs.Files.{behind, behind_all, behind_item}
-use Rattle.pa_reading.specs.Tokens.{is_word}
-use Rattle.pa_reading.specs.Parser.{Parser, ◌>>=◌, ◌>>◌, pure, refuse, look, after, ended, needs, sees, mark, Next, Done, More, iterate, many}
-use Rattle.pa_reading.specs.Reading.{parsers, begins_type, not_brace}
+use Rattle.pa_grammar.specs.Tokens.{is_word}
+use Rattle.pa_grammar.specs.Parser.{Parser, ◌>>=◌, ◌>>◌, pure, refuse, look, after, ended, needs, sees, mark, Next, Done, More, iterate, many}
+use Rattle.pa_grammar.specs.Reading.{parsers, begins_type, not_brace}
 
 -- the next token is this keyword
 abbrev pub reads_word : Keyword → Option Token → Bool

@@ -21,10 +21,10 @@ use Rattle.pa_tree.specs.Views.{expr_tree, specs_tree, declarator_tree, initiali
 use Rattle.pa_pspec.specs.declared.at.At.{At}
 use Rattle.pa_pdecl.specs.declared.file.Front.{Front}
 use Rattle.pa_pdecl.specs.Reading as reading
-use Rattle.pa_reading.specs.declared.rule.ParseError.{ParseError}
-use Rattle.pa_reading.specs.Parser.{Outcome, Parser, look, many, iterate, sees}
-use Rattle.pa_reading.specs.Reading.{not_brace}
-use Rattle.pa_reading.specs.Reads.{Reads}
+use Rattle.pa_grammar.specs.declared.rule.ParseError.{ParseError}
+use Rattle.pa_grammar.specs.Parser.{Outcome, Parser, look, many, iterate, sees}
+use Rattle.pa_grammar.specs.Reading.{not_brace}
+use Rattle.pa_grammar.specs.Reads.{Reads}
 
 module _ (at : At) where
   -- statements (C11 6.8)

@@ -3,14 +3,14 @@
 ghost use Rattle.std.specs.Prelude.{◌≤◌, None};
 ghost use Rattle.std.specs.Option.{option_map};
 ghost use Rattle.pa_tree.specs.Views.{initializer_tree, block_declaration_tree};
-ghost use Rattle.pa_reading.specs.Reads.{Reads};
+ghost use Rattle.pa_grammar.specs.Reads.{Reads};
 ghost use Rattle.pa_pdecl.specs.Reading as reading;
 ghost use Rattle.pa_pdecl.specs.Rules as rule;
 
 use crate::initializer::initializer;
+use pa_grammar::{Naming, ParseError, Reader, TypeNames, needs};
 use pa_lex::Punct;
 use pa_pexpr::{read_declarator, read_specs};
-use pa_reading::{Naming, ParseError, Reader, TypeNames, needs};
 use pa_tree::{BlockDeclaration, Declarator, InitDeclarator, Initializer};
 use sqlite_items::Items;
 use std::alloc::Global;

@@ -4,16 +4,16 @@ ghost use Rattle.std.specs.Prelude.{◌≡◌, ◌≤◌, ◌∷◌, ◌++◌, m
 ghost use Rattle.pa_tree.specs.Cursors as cursors;
 ghost use Rattle.pa_lex.specs.Numbering.{stdint_numbers};
 ghost use Rattle.pa_tree.specs.Views.{file_item_tree};
-ghost use Rattle.pa_reading.specs.Reads.{Reads};
+ghost use Rattle.pa_grammar.specs.Reads.{Reads};
 ghost use Rattle.pa_pdecl.specs.Reading as reading;
 ghost use Rattle.pa_pdecl.specs.Rules as rule;
 
 use crate::statement::stmt;
 use crate::typedef::declarators;
+use pa_grammar::{Naming, ParseError, Reader, SynRule, TypeNames};
 use pa_lex::{Include, Keyword, Kind, Punct};
 use pa_num::Memory;
 use pa_pexpr::{read_declarator, read_specs};
-use pa_reading::{Naming, ParseError, Reader, SynRule, TypeNames};
 use pa_tree::{
     Declaration, Declarator, FileItem, FunctionDefinition, InitDeclarator, Specs, Storage,
 };

@@ -2,15 +2,15 @@
 
 ghost use Rattle.std.specs.Prelude.{◌≤◌, map};
 ghost use Rattle.pa_tree.specs.Views.{initializer_tree};
-ghost use Rattle.pa_reading.specs.Reads.{Reads};
+ghost use Rattle.pa_grammar.specs.Reads.{Reads};
 ghost use Rattle.pa_pdecl.specs.Nests.{NestsInitializer};
 ghost use Rattle.pa_pdecl.specs.Reading as reading;
 ghost use Rattle.pa_pdecl.specs.Rules as rule;
 
+use pa_grammar::{ParseError, Reader, SynRule, TypeNames, needs};
 use pa_lex::Punct;
 use pa_pexpr::read_expr;
 use pa_pspec::At;
-use pa_reading::{ParseError, Reader, SynRule, TypeNames, needs};
 use pa_tree::Initializer;
 use sqlite_items::Items;
 use std::alloc::Global;

@@ -5,9 +5,9 @@ ghost use Rattle.pa_tree.specs.Cursors as cursors;
 ghost use Rattle.pa_pdecl.specs.Parsed.{IsParsed};
 
 use crate::file::file_items;
+use pa_grammar::{ParseError, Reader, SynRule};
 use pa_lex::Token;
 use pa_num::Fault;
-use pa_reading::{ParseError, Reader, SynRule};
 use pa_tree::File;
 use std::alloc::Global;
 

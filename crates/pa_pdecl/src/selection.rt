@@ -2,15 +2,15 @@
 
 ghost use Rattle.std.specs.Prelude.{◌≤◌};
 ghost use Rattle.pa_tree.specs.Views.{stmt_tree};
-ghost use Rattle.pa_reading.specs.Reads.{Reads};
+ghost use Rattle.pa_grammar.specs.Reads.{Reads};
 ghost use Rattle.pa_pdecl.specs.Nests.{NestsStmt};
 ghost use Rattle.pa_pdecl.specs.Rules as rule;
 
 use crate::stmt_rules::StmtRules;
 use crate::word::{expect_word, sees_word};
+use pa_grammar::{ParseError, Reader, TypeNames, needs};
 use pa_lex::{Keyword, Punct, Token};
 use pa_pexpr::read_expr;
-use pa_reading::{ParseError, Reader, TypeNames, needs};
 use pa_tree::{Expr, Stmt};
 use sqlite_items::Boxed;
 use std::alloc::Global;

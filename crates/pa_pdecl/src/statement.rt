@@ -2,17 +2,17 @@
 
 ghost use Rattle.std.specs.Prelude.{◌≡◌, ◌≤◌};
 ghost use Rattle.pa_tree.specs.Views.{stmt_tree};
-ghost use Rattle.pa_reading.specs.Parser as parser;
-ghost use Rattle.pa_reading.specs.Reads.{Reads};
+ghost use Rattle.pa_grammar.specs.Parser as parser;
+ghost use Rattle.pa_grammar.specs.Reads.{Reads};
 ghost use Rattle.pa_pdecl.specs.Nests.{NestsStmt};
 ghost use Rattle.pa_pdecl.specs.Reading as reading;
 ghost use Rattle.pa_pdecl.specs.Rules as rule;
 
 use crate::stmt_rules::StmtRules;
+use pa_grammar::{ParseError, Reader, SynRule, TypeNames};
 use pa_lex::{Keyword, Kind, Punct, Token};
 use pa_pexpr::read_expr;
 use pa_pspec::At;
-use pa_reading::{ParseError, Reader, SynRule, TypeNames};
 use pa_tree::Stmt;
 use std::alloc::Global;
 

@@ -3,15 +3,15 @@
 ghost use Rattle.std.specs.Prelude.{◌≤◌, map};
 ghost use Rattle.std.specs.Option.{option_map};
 ghost use Rattle.pa_tree.specs.Views.{expr_tree, stmt_tree, block_item_tree, for_start_tree};
-ghost use Rattle.pa_reading.specs.Reads.{Reads};
+ghost use Rattle.pa_grammar.specs.Reads.{Reads};
 ghost use Rattle.pa_pdecl.specs.Nests.{NestsStmt};
 ghost use Rattle.pa_pdecl.specs.Rules as rule;
 
 use crate::declaration::block_declaration;
+use pa_grammar::{ParseError, Reader, TypeNames, begins_type};
 use pa_lex::Punct;
 use pa_pexpr::read_expr;
 use pa_pspec::At;
-use pa_reading::{ParseError, Reader, TypeNames, begins_type};
 use pa_tree::{BlockItem, Expr, ForStart, Stmt};
 use sqlite_items::{Boxed, Items};
 use std::alloc::Global;

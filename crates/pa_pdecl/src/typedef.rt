@@ -6,10 +6,10 @@ ghost use Rattle.pa_tree.specs.Views.{declarator_tree};
 ghost use Rattle.pa_pdecl.specs.Rules as rule;
 
 use crate::declaration::finished;
+use pa_grammar::{Naming, ParseError, Reader, TypeNames};
 use pa_lex::{NameNumber, Punct};
 use pa_num::Memory;
 use pa_pexpr::read_declarator;
-use pa_reading::{Naming, ParseError, Reader, TypeNames};
 use pa_tree::{Declarator, InitDeclarator, Storage};
 use sqlite_items::Items;
 use std::alloc::Global;

@@ -2,11 +2,11 @@
 
 ghost use Rattle.std.specs.Prelude.{◌≡◌};
 ghost use Rattle.pa_tree.specs.Cursors as cursors;
-ghost use Rattle.pa_reading.specs.Reads.{Reads};
+ghost use Rattle.pa_grammar.specs.Reads.{Reads};
 ghost use Rattle.pa_pdecl.specs.Reading as reading;
 
+use pa_grammar::{ParseError, Reader, SynRule, is_word};
 use pa_lex::Keyword;
-use pa_reading::{ParseError, Reader, SynRule, is_word};
 
 /// The next token is this keyword.
 pub fn sees_word(r: &Reader<'_>, keyword: Keyword) -> bool

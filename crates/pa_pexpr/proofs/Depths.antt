@@ -1,8 +1,8 @@
 -- The readers of a depth that isn't 0, over those of the depth below.
 use Rattle.std.proofs.Common.{◌≡◌, ◌<◌, ◌-◌, ℕ, zero, suc, List, refl, ap, arith}
 use Rattle.pa_tree.specs.Cursors.{Cursor}
-use Rattle.pa_reading.specs.declared.rule.Naming.{Naming}
-use Rattle.pa_reading.specs.Reading.{parsers, expr_level, opened_level, declarator_level}
+use Rattle.pa_grammar.specs.declared.rule.Naming.{Naming}
+use Rattle.pa_grammar.specs.Reading.{parsers, expr_level, opened_level, declarator_level}
 
 module _ (names : List ℕ) where
   one_less : (d : ℕ) → 0 < d → d ≡ suc (d - 1)

@@ -7,18 +7,18 @@ use Rattle.pa_tree.specs.Exprs.{ExprTree}
 use Rattle.pa_tree.specs.Heights.{expr_height, exprs_height}
 use Rattle.pa_tree.specs.declared.expr.Expr.{Expr}
 use Rattle.pa_tree.specs.Views.{expr_tree, exprs_of}
-use Rattle.pa_reading.specs.declared.rule.ParseError.{ParseError}
-use Rattle.pa_reading.specs.Commas.{behind_comma}
+use Rattle.pa_grammar.specs.declared.rule.ParseError.{ParseError}
+use Rattle.pa_grammar.specs.Commas.{behind_comma}
 use Rattle.pa_pspec.specs.declared.measured.Measured.{Measured}
 use Rattle.pa_pspec.specs.Measures.{Gives}
 use Rattle.pa_pspec.specs.Trees as tree
-use Rattle.pa_reading.specs.Parser.{Parser, and_then, goes, iterate, mark, sees, many, item_step}
-use Rattle.pa_reading.specs.Reading.{Parsers, text_step, parsers, next, turn, last, climb}
-use Rattle.pa_reading.proofs.Meets.{IfRead}
-use Rattle.pa_reading.proofs.Iterated.{one_turn}
-use Rattle.pa_reading.proofs.Eats.{Eats, Fewer, eats_left, eats_mark, item_step-shrinks}
-use Rattle.pa_reading.proofs.LocalReading.{text-shrinks, parsers-local}
-use Rattle.pa_reading.proofs.Steps.{then_is}
+use Rattle.pa_grammar.specs.Parser.{Parser, and_then, goes, iterate, mark, sees, many, item_step}
+use Rattle.pa_grammar.specs.Reading.{Parsers, text_step, parsers, next, turn, last, climb}
+use Rattle.pa_grammar.proofs.Meets.{IfRead}
+use Rattle.pa_grammar.proofs.Iterated.{one_turn}
+use Rattle.pa_grammar.proofs.Eats.{Eats, Fewer, eats_left, eats_mark, item_step-shrinks}
+use Rattle.pa_grammar.proofs.LocalReading.{text-shrinks, parsers-local}
+use Rattle.pa_grammar.proofs.Steps.{then_is}
 
 pub text_turn : (all : List ℕ) (c : Cursor) → iterate text_step all c ≡ and_then (text_step all c) (goes (iterate text_step))
 text_turn all c = one_turn text_step text-shrinks all c

@@ -12,11 +12,11 @@ use Rattle.pa_tree.specs.Views.{expr_tree}
 use Rattle.pa_pspec.specs.declared.at.At.{At}
 use Rattle.pa_pexpr.specs.declared.infix.Infix.{Infix}
 use Rattle.pa_pexpr.specs.Shown.{infix_shown}
-use Rattle.pa_reading.specs.Commas.{behind_comma}
-use Rattle.pa_reading.specs.Infixes as infixes
-use Rattle.pa_reading.specs.Parser.{Parser, look, many, sees}
-use Rattle.pa_reading.specs.Reading as reading
-use Rattle.pa_reading.specs.Reading.{Parsers, parsers}
+use Rattle.pa_grammar.specs.Commas.{behind_comma}
+use Rattle.pa_grammar.specs.Infixes as infixes
+use Rattle.pa_grammar.specs.Parser.{Parser, look, many, sees}
+use Rattle.pa_grammar.specs.Reading as reading
+use Rattle.pa_grammar.specs.Reading.{Parsers, parsers}
 
 module _ (at : At) where
   abbrev pub parts : Parsers

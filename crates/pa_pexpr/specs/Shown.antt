@@ -4,7 +4,7 @@ use Rattle.std.specs.Borrow.{Bor}
 use Rattle.pa_lex.specs.declared.token.Token.{Token}
 use Rattle.pa_pexpr.specs.declared.infix.Infix.{Infix}
 use Rattle.pa_pexpr.specs.declared.infix.Infix.TheVariants as shown
-use Rattle.pa_reading.specs.Infixes as spec
+use Rattle.pa_grammar.specs.Infixes as spec
 
 abbrev pub infix_shown : Infix → spec.Infix
 infix_shown (shown.Between op) = spec.Between op

@@ -8,9 +8,9 @@ ghost use Rattle.pa_pspec.specs.Trees as tree;
 ghost use Rattle.pa_pexpr.specs.Rules as rule;
 
 use crate::expr_rules::ExprRules;
+use pa_grammar::{ParseError, Reader};
 use pa_lex::Punct;
 use pa_pspec::{Measured, Parts};
-use pa_reading::{ParseError, Reader};
 use pa_tree::Expr;
 use sqlite_items::Items;
 

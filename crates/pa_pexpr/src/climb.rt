@@ -7,18 +7,18 @@ ghost use Rattle.pa_pspec.specs.Measures.{Gives, Measures};
 ghost use Rattle.pa_pspec.specs.Trees as tree;
 ghost use Rattle.pa_pexpr.specs.Rules as rule;
 ghost use Rattle.pa_pexpr.specs.Shown.{next_shown};
-ghost use Rattle.pa_reading.specs.Reading as reading;
+ghost use Rattle.pa_grammar.specs.Reading as reading;
 
 use crate::expr_rules::ExprRules;
 use crate::infix::{Infix, tree_level};
+use pa_grammar::{ParseError, Reader, SynRule, needs, plain_name};
 use pa_lex::{Kind, Punct, Token};
 use pa_pspec::{Measured, Parts};
-use pa_reading::{ParseError, Reader, SynRule, needs, plain_name};
 use pa_tree::{BinaryOperator, COND_LEVEL, Expr, Step, UNARY_LEVEL};
 use sqlite_items::Boxed;
 
 /// The operator that goes on behind `left` at this level, with its token, if one does.
-#[tactic(auto, unfolding(pa_reading::specs::Reading::next))]
+#[tactic(auto, unfolding(pa_grammar::specs::Reading::next))]
 fn next<'t>(r: &Reader<'t>, left: &Expr, level: u8) -> Option<(Infix, &'t Token)>
     ensures { reading.next level (expr_tree left.now) r.now ≡ Ok (next_shown result, r.now) }
 {
@@ -292,7 +292,7 @@ impl<'a, P: Parts> ExprRules<'a, P> {
     }
 
     /// An expression of this level.
-    #[tactic(auto, unfolding(pa_reading::specs::Reading::expr_level))]
+    #[tactic(auto, unfolding(pa_grammar::specs::Reading::expr_level))]
     pub fn expr_level(&self, r: &mut Reader<'_>, level: u8) -> Result<Measured<Expr>, ParseError>
         requires exprs { P.reads_exprs self.now.parts self.now.at.depth }
         requires types { P.reads_types self.now.parts self.now.at.depth }
@@ -306,7 +306,7 @@ impl<'a, P: Parts> ExprRules<'a, P> {
     }
 
     /// Behind the `(` of a unary expression at `from`, where no type name follows.
-    #[tactic(auto, unfolding(pa_reading::specs::Reading::opened_level))]
+    #[tactic(auto, unfolding(pa_grammar::specs::Reading::opened_level))]
     pub fn opened_level(&self, r: &mut Reader<'_>, from: u32) -> Result<Measured<Expr>, ParseError>
         requires exprs { P.reads_exprs self.now.parts self.now.at.depth }
         requires shallow { self.now.at.depth ≤ 200 }

@@ -3,11 +3,11 @@
 ghost use Rattle.std.specs.Prelude.{◌≡◌, ◌≤◌};
 ghost use Rattle.pa_pspec.specs.Measures.{Gives, Measures};
 ghost use Rattle.pa_pspec.specs.Trees as tree;
-ghost use Rattle.pa_reading.specs.Reading as reading;
+ghost use Rattle.pa_grammar.specs.Reading as reading;
 
 use crate::expr_rules::ExprRules;
+use pa_grammar::{Naming, ParseError, Reader, TypeNames, no_expr};
 use pa_pspec::{At, Measured, Readers, TypeRules, bare_declarator};
-use pa_reading::{Naming, ParseError, Reader, TypeNames, no_expr};
 use pa_tree::{Declarator, Expr, Specs};
 use std::alloc::Global;
 
@@ -32,7 +32,7 @@ macro_rules! rules {
 
 /// Reads an expression of this level (a nonterminal of C11 6.5 by its number) that is no deeper than `depth`, and gives its height.
 #[cycle(depth)]
-#[tactic(auto, unfolding(pa_reading::specs::Reading::parsers))]
+#[tactic(auto, unfolding(pa_grammar::specs::Reading::parsers))]
 pub fn read_expr(
     alloc: Global,
     names: &TypeNames,
@@ -52,7 +52,7 @@ pub fn read_expr(
 
 /// Reads on behind the `(` of a unary expression, which stands at `from` and is followed by no type name.
 #[cycle(depth)]
-#[tactic(auto, unfolding(pa_reading::specs::Reading::parsers))]
+#[tactic(auto, unfolding(pa_grammar::specs::Reading::parsers))]
 fn read_opened(
     alloc: Global,
     names: &TypeNames,
@@ -73,7 +73,7 @@ fn read_opened(
 /// Reads specifiers that are no deeper than `depth`, where `bodies` says whether the body of a struct or an enumeration may stand, and
 /// gives their height.
 #[cycle(depth)]
-#[tactic(auto, unfolding(pa_reading::specs::Reading::parsers))]
+#[tactic(auto, unfolding(pa_grammar::specs::Reading::parsers))]
 pub fn read_specs(
     alloc: Global,
     names: &TypeNames,
@@ -90,7 +90,7 @@ pub fn read_specs(
 
 /// Reads a declarator that is no deeper than `depth`, and gives its height.
 #[cycle(depth)]
-#[tactic(auto, unfolding(pa_reading::specs::Reading::parsers))]
+#[tactic(auto, unfolding(pa_grammar::specs::Reading::parsers))]
 pub fn read_declarator(
     alloc: Global,
     names: &TypeNames,

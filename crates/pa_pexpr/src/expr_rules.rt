@@ -4,8 +4,8 @@ ghost use Rattle.pa_pspec.specs.Measures.{Gives, Measures};
 ghost use Rattle.pa_pspec.specs.Trees as tree;
 ghost use Rattle.pa_pexpr.specs.Rules as rule;
 
+use pa_grammar::{Naming, ParseError, Reader};
 use pa_pspec::{At, Measured, Parts};
-use pa_reading::{Naming, ParseError, Reader};
 use pa_tree::{Expr, TypeName};
 use std::alloc::Global;
 
@@ -39,7 +39,7 @@ impl<'a, P: Parts> ExprRules<'a, P> {
     }
 
     /// A type name (C11 6.7.7).
-    #[tactic(auto, using(pa_tree::proofs::Views::expr_views), unfolding(pa_reading::specs::Reading::type_name))]
+    #[tactic(auto, using(pa_tree::proofs::Views::expr_views), unfolding(pa_grammar::specs::Reading::type_name))]
     pub fn type_name(&self, r: &mut Reader<'_>) -> Result<Measured<TypeName>, ParseError>
         requires types { P.reads_types self.now.parts self.now.at.depth }
         ensures value { Gives tree.type_name (rule.type_name self.now.at r.old) result r.new }

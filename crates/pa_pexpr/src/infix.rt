@@ -3,7 +3,7 @@
 ghost use Rattle.std.specs.Prelude.{◌≡◌};
 ghost use Rattle.std.specs.Option.{option_map, option_copied};
 ghost use Rattle.pa_tree.specs.Views.{expr_tree};
-ghost use Rattle.pa_reading.specs.Infixes as spec;
+ghost use Rattle.pa_grammar.specs.Infixes as spec;
 ghost use Rattle.pa_pexpr.specs.Shown.{infix_shown};
 
 use pa_lex::{Kind, Punct};

@@ -11,6 +11,6 @@ mod piece;
 mod whole;
 
 pub use depth::{read_declarator, read_expr, read_specs};
+pub use pa_grammar::{Level, Naming, ParseError, Reader, SynRule, TypeNames, begins_type, needs};
 pub use pa_pspec::Measured;
-pub use pa_reading::{Level, Naming, ParseError, Reader, SynRule, TypeNames, begins_type, needs};
 pub use whole::{MOST_LEVELS, declarator, expr, type_specs};

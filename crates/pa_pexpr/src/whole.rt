@@ -5,13 +5,13 @@ ghost use Rattle.pa_tree.specs.Heights.{expr_height, specs_height, declarator_he
 ghost use Rattle.pa_tree.specs.Spells.{ExprSpells, SpecsSpell};
 ghost use Rattle.pa_tree.specs.Views.{expr_tree, specs_tree, declarator_tree};
 ghost use Rattle.pa_num.specs.declared.fault.Fault.TheVariants as fault;
-ghost use Rattle.pa_reading.specs.Answers as answers;
-ghost use Rattle.pa_reading.specs.Reading as reading;
+ghost use Rattle.pa_grammar.specs.Answers as answers;
+ghost use Rattle.pa_grammar.specs.Reading as reading;
 
 use crate::depth::{read_declarator, read_expr, read_specs};
+use pa_grammar::{Level, Naming, ParseError, Reader, SynRule, TypeNames};
 use pa_lex::Token;
 use pa_num::Fault;
-use pa_reading::{Level, Naming, ParseError, Reader, SynRule, TypeNames};
 use pa_tree::{Declarator, Expr, Specs};
 use std::alloc::Global;
 

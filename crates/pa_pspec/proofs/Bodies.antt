@@ -8,15 +8,15 @@ use Rattle.pa_tree.specs.Cursors.{Cursor}
 use Rattle.pa_tree.specs.Exprs.{EnumeratorTree}
 use Rattle.pa_tree.specs.Views.{enumerator_tree}
 use Rattle.pa_pspec.specs.Bodies.{member_inside, struct_inside, step_inside, enum_inside}
-use Rattle.pa_reading.specs.Commas.{behind_comma}
-use Rattle.pa_reading.specs.declared.rule.Naming.TheVariants as naming
-use Rattle.pa_reading.specs.Parser.{Outcome, Stop, Done, More, iterate}
-use Rattle.pa_reading.specs.Reading.{parsers, struct_body, enum_body}
-use Rattle.pa_reading.proofs.Eats.{Eats}
-use Rattle.pa_reading.proofs.Iterated.{Shrinks, Shorter, one_turn}
-use Rattle.pa_reading.proofs.LocalReading.{parsers-local, member-eats, enumerator-shrinks}
-use Rattle.pa_reading.proofs.Meets.{IfRead}
-use Rattle.pa_reading.proofs.Turned.{behind-eats}
+use Rattle.pa_grammar.specs.Commas.{behind_comma}
+use Rattle.pa_grammar.specs.declared.rule.Naming.TheVariants as naming
+use Rattle.pa_grammar.specs.Parser.{Outcome, Stop, Done, More, iterate}
+use Rattle.pa_grammar.specs.Reading.{parsers, struct_body, enum_body}
+use Rattle.pa_grammar.proofs.Eats.{Eats}
+use Rattle.pa_grammar.proofs.Iterated.{Shrinks, Shorter, one_turn}
+use Rattle.pa_grammar.proofs.LocalReading.{parsers-local, member-eats, enumerator-shrinks}
+use Rattle.pa_grammar.proofs.Meets.{IfRead}
+use Rattle.pa_grammar.proofs.Turned.{behind-eats}
 
 pub takes_declarator : (names : List ℕ) (d : ℕ) → Eats (behind_comma ((parsers names d).declarator naming.Named))
 takes_declarator names d = behind-eats ((parsers names d).declarator naming.Named) ((parsers-local names d).declarator naming.Named)

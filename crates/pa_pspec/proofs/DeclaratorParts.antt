@@ -9,17 +9,17 @@ use Rattle.pa_tree.specs.Exprs.{DeclaratorTree}
 use Rattle.pa_tree.specs.Heights.{declarator_height}
 use Rattle.pa_pspec.specs.declared.declarators.Suffix.{Suffix}
 use Rattle.pa_pspec.specs.declared.declarators.Suffix.TheVariants as part
-use Rattle.pa_reading.specs.declared.rule.ParseError.TheVariants.{Broken}
-use Rattle.pa_reading.specs.declared.rule.SynRule.TheVariants.{S2}
-use Rattle.pa_reading.specs.Commas.{behind_comma}
-use Rattle.pa_reading.specs.Parser.{Parser, Outcome, Stop, and_then, ◌>>=◌, ◌>>◌, pure, after, needs}
-use Rattle.pa_reading.specs.Reading as reading
-use Rattle.pa_reading.specs.Reading.{Parsers, parsers, suffix, suffixes, parameter}
+use Rattle.pa_grammar.specs.declared.rule.ParseError.TheVariants.{Broken}
+use Rattle.pa_grammar.specs.declared.rule.SynRule.TheVariants.{S2}
+use Rattle.pa_grammar.specs.Commas.{behind_comma}
+use Rattle.pa_grammar.specs.Parser.{Parser, Outcome, Stop, and_then, ◌>>=◌, ◌>>◌, pure, after, needs}
+use Rattle.pa_grammar.specs.Reading as reading
+use Rattle.pa_grammar.specs.Reading.{Parsers, parsers, suffix, suffixes, parameter}
 use Rattle.pa_pspec.specs.Suffixes.{with_token, suffix_ahead, suffix_of}
-use Rattle.pa_reading.specs.Tokens.{is_mark}
-use Rattle.pa_reading.proofs.LocalReading.{parsers-local, parameter-local}
-use Rattle.pa_reading.proofs.Eats.{Eats}
-use Rattle.pa_reading.proofs.Turned.{behind-eats}
+use Rattle.pa_grammar.specs.Tokens.{is_mark}
+use Rattle.pa_grammar.proofs.LocalReading.{parsers-local, parameter-local}
+use Rattle.pa_grammar.proofs.Eats.{Eats}
+use Rattle.pa_grammar.proofs.Turned.{behind-eats}
 
 pub takes_parameter : (names : List ℕ) (d : ℕ) → Eats (behind_comma (parameter names d (parsers names d)))
 takes_parameter names d = behind-eats (parameter names d (parsers names d)) (parameter-local names d (parsers names d) (parsers-local names d))

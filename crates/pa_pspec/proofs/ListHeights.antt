@@ -10,7 +10,7 @@ use Rattle.pa_tree.specs.declared.expr.Parameter.{Parameter}
 use Rattle.pa_tree.specs.Exprs.{ExprTree, QualifierTree, MemberTree, EnumeratorTree, DeclaratorTree, ParameterTree}
 use Rattle.pa_tree.specs.Heights.{expr_height, qualifier_height, member_height, enumerator_height, declarator_height, parameter_height}
 use Rattle.pa_tree.specs.Views.{expr_tree, qualifier_tree, member_tree, enumerator_tree, declarator_tree, parameter_tree}
-use Rattle.pa_reading.specs.Parts.{height_of_exprs, height_of_qualifiers, height_of_members, height_of_enumerators, height_of_declarators, height_of_parameters}
+use Rattle.pa_grammar.specs.Parts.{height_of_exprs, height_of_qualifiers, height_of_members, height_of_enumerators, height_of_declarators, height_of_parameters}
 
 end_of_exprs : (xs : List ExprTree) (x : ExprTree) → height_of_exprs (xs ++ x ∷ []) ≡ max (height_of_exprs xs) (expr_height x)
 end_of_exprs [] x = omega arith

@@ -5,12 +5,12 @@ use Rattle.pa_lex.specs.declared.token.Token.{Token}
 use Rattle.pa_tree.specs.Cursors.{Cursor, head}
 use Rattle.pa_tree.specs.Exprs.{ExprTree}
 use Rattle.pa_tree.specs.Operators.{cond_level}
-use Rattle.pa_reading.specs.declared.rule.SynRule.TheVariants.{S1}
-use Rattle.pa_reading.specs.Parser.{Parser, Outcome, Stop, and_then, ◌>>=◌, pure, refuse, after, mark, mark_at, sees}
-use Rattle.pa_reading.specs.Tokens.{is_mark}
-use Rattle.pa_reading.specs.Reading.{Parsers, parsers, conds, qualifier}
-use Rattle.pa_reading.proofs.Eats.{Eats}
-use Rattle.pa_reading.proofs.LocalReading.{parsers-local, qualifier-eats}
+use Rattle.pa_grammar.specs.declared.rule.SynRule.TheVariants.{S1}
+use Rattle.pa_grammar.specs.Parser.{Parser, Outcome, Stop, and_then, ◌>>=◌, pure, refuse, after, mark, mark_at, sees}
+use Rattle.pa_grammar.specs.Tokens.{is_mark}
+use Rattle.pa_grammar.specs.Reading.{Parsers, parsers, conds, qualifier}
+use Rattle.pa_grammar.proofs.Eats.{Eats}
+use Rattle.pa_grammar.proofs.LocalReading.{parsers-local, qualifier-eats}
 
 module _ (names : List ℕ) (d : ℕ) (here : Parsers) where
   -- no more than n further expressions, behind these

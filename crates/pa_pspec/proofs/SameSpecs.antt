@@ -13,11 +13,11 @@ use Rattle.pa_tree.specs.Cursors.{Cursor, head, from_of}
 use Rattle.pa_tree.specs.Exprs.{ExprTree, BaseTree, QualifierTree, EnumeratorTree, SpecsTree, OfSpecs, StructTag, EnumTag}
 use Rattle.pa_tree.specs.Operators.{word_in}
 use Rattle.pa_tree.specs.Views.{qualifiers_of}
-use Rattle.pa_reading.specs.declared.rule.SynRule.TheVariants.{S2}
-use Rattle.pa_reading.specs.Parser.{Parser, Outcome, Stop, and_then, ◌>>=◌, ◌>>◌, pure, refuse, look, after, ended, needs, sees, Next, Done, More, goes, loop, iterate, item_step, many}
-use Rattle.pa_reading.specs.Reading as reading
-use Rattle.pa_reading.specs.Reading.{Parsers, parsers, no_parsers, begins_qualifier, not_brace, conds, qualifier, qualifiers, member, enumerator, enumerator_step, base, specs_level, expr_level, opened_level}
-use Rattle.pa_reading.specs.Tokens.{is_word}
+use Rattle.pa_grammar.specs.declared.rule.SynRule.TheVariants.{S2}
+use Rattle.pa_grammar.specs.Parser.{Parser, Outcome, Stop, and_then, ◌>>=◌, ◌>>◌, pure, refuse, look, after, ended, needs, sees, Next, Done, More, goes, loop, iterate, item_step, many}
+use Rattle.pa_grammar.specs.Reading as reading
+use Rattle.pa_grammar.specs.Reading.{Parsers, parsers, no_parsers, begins_qualifier, not_brace, conds, qualifier, qualifiers, member, enumerator, enumerator_step, base, specs_level, expr_level, opened_level}
+use Rattle.pa_grammar.specs.Tokens.{is_word}
 
 -- both give the same everywhere
 pub record Same {A : Type 0} (q r : Parser A) : Type 0 where

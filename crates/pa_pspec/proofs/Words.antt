@@ -6,10 +6,10 @@ use Rattle.pa_tree.specs.declared.operator.IntegerWord.TheVariants as word
 use Rattle.pa_tree.specs.Cursors.{Cursor}
 use Rattle.pa_tree.specs.Operators.{Words, no_words, with_word, is_integer_type, goes_with, are_integer_type}
 use Rattle.pa_pspec.specs.Counted.{with_words}
-use Rattle.pa_reading.specs.Parser.{and_then, goes, iterate}
-use Rattle.pa_reading.specs.Reading.{word_step}
-use Rattle.pa_reading.proofs.Iterated.{one_turn}
-use Rattle.pa_reading.proofs.LocalReading.{word-shrinks}
+use Rattle.pa_grammar.specs.Parser.{and_then, goes, iterate}
+use Rattle.pa_grammar.specs.Reading.{word_step}
+use Rattle.pa_grammar.proofs.Iterated.{one_turn}
+use Rattle.pa_grammar.proofs.LocalReading.{word-shrinks}
 
 pub word_turn : (all : List IntegerWord) (c : Cursor) → iterate word_step all c ≡ and_then (word_step all c) (goes (iterate word_step))
 word_turn all c = one_turn word_step word-shrinks all c

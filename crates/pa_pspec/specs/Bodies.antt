@@ -6,8 +6,8 @@ use Rattle.pa_tree.specs.Exprs.{BaseTree, MemberTree, EnumeratorTree, StructTag,
 use Rattle.pa_tree.specs.Views.{members_of, enumerators_of}
 use Rattle.pa_pspec.specs.declared.specifier.Tagged.{Tagged}
 use Rattle.pa_pspec.specs.declared.specifier.Tagged.TheVariants as tagged
-use Rattle.pa_reading.specs.Parser.{Parser, Next, ◌>>=◌, ◌>>◌, pure, mark, ended, many, iterate}
-use Rattle.pa_reading.specs.Reading.{Parsers, parsers, struct_body, enum_body, member, not_brace, enumerator, enumerator_step}
+use Rattle.pa_grammar.specs.Parser.{Parser, Next, ◌>>=◌, ◌>>◌, pure, mark, ended, many, iterate}
+use Rattle.pa_grammar.specs.Reading.{Parsers, parsers, struct_body, enum_body, member, not_brace, enumerator, enumerator_step}
 
 -- the body of a struct or of an enumeration
 abbrev pub body_of : List ℕ → ℕ → Parsers → Parsers → Tagged → ℕ → Option Tag → Parser BaseTree

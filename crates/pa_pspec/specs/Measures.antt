@@ -7,9 +7,9 @@ use Rattle.pa_tree.specs.Exprs.{ExprTree, EnumeratorTree}
 use Rattle.pa_tree.specs.Views.{enumerator_tree, expr_tree}
 use Rattle.pa_pspec.specs.declared.measured.Measured.{Measured}
 use Rattle.pa_pspec.specs.Trees.{Tree}
-use Rattle.pa_reading.specs.declared.rule.ParseError.{ParseError}
-use Rattle.pa_reading.specs.Parser.{Outcome, Parser, Next, Done, More}
-use Rattle.pa_reading.specs.Reads.{Reads}
+use Rattle.pa_grammar.specs.declared.rule.ParseError.{ParseError}
+use Rattle.pa_grammar.specs.Parser.{Outcome, Parser, Next, Done, More}
+use Rattle.pa_grammar.specs.Reads.{Reads}
 
 abbrev pub Gives : {A T : Type 0} → Tree A T → Outcome T → Result (Measured A) ParseError → Cursor → Type 0
 Gives tree outcome r new = Reads (λ m. tree.view m.tree) outcome r new

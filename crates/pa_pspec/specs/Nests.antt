@@ -9,9 +9,9 @@ use Rattle.pa_tree.specs.Cursors.{Cursor}
 use Rattle.pa_pspec.specs.declared.measured.Measured.{Measured}
 use Rattle.pa_pspec.specs.Measures.{Gives, Measures}
 use Rattle.pa_pspec.specs.Trees as tree
-use Rattle.pa_reading.specs.declared.rule.Naming.{Naming}
-use Rattle.pa_reading.specs.declared.rule.ParseError.{ParseError}
-use Rattle.pa_reading.specs.Reading.{parsers}
+use Rattle.pa_grammar.specs.declared.rule.Naming.{Naming}
+use Rattle.pa_grammar.specs.declared.rule.ParseError.{ParseError}
+use Rattle.pa_grammar.specs.Reading.{parsers}
 
 pub record NestsExpr (d : ℕ) (pre : Global → Bor (List ℕ) → MutBor Cursor → ℕ → ℕ → Type 0)
     (post : Global → Bor (List ℕ) → MutBor Cursor → ℕ → ℕ → Result (Measured Expr) ParseError → MutBor Cursor → Type 0) : Type 0 where

@@ -17,12 +17,12 @@ use Rattle.pa_pspec.specs.declared.declarators.Suffix.{Suffix}
 use Rattle.pa_pspec.specs.declared.specifier.Tagged.{Tagged}
 use Rattle.pa_pspec.specs.Bodies.{body_of, alone_of, member_inside, struct_inside, enumerator_inside, step_inside, enum_inside}
 use Rattle.pa_pspec.specs.Suffixes.{suffix_of}
-use Rattle.pa_reading.specs.declared.rule.Naming.{Naming}
-use Rattle.pa_reading.specs.declared.rule.Naming.TheVariants as naming
-use Rattle.pa_reading.specs.Commas.{behind_comma}
-use Rattle.pa_reading.specs.Parser.{Parser, Next, look, many, iterate, sees}
-use Rattle.pa_reading.specs.Reading as reading
-use Rattle.pa_reading.specs.Reading.{Parsers, parsers}
+use Rattle.pa_grammar.specs.declared.rule.Naming.{Naming}
+use Rattle.pa_grammar.specs.declared.rule.Naming.TheVariants as naming
+use Rattle.pa_grammar.specs.Commas.{behind_comma}
+use Rattle.pa_grammar.specs.Parser.{Parser, Next, look, many, iterate, sees}
+use Rattle.pa_grammar.specs.Reading as reading
+use Rattle.pa_grammar.specs.Reading.{Parsers, parsers}
 
 module _ (at : At) where
   abbrev pub parts : Parsers

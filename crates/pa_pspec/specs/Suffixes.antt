@@ -8,11 +8,11 @@ use Rattle.pa_tree.specs.Exprs.{DeclaratorTree, Absent}
 use Rattle.pa_tree.specs.Heights.{declarator_height}
 use Rattle.pa_pspec.specs.declared.declarators.Suffix.{Suffix}
 use Rattle.pa_pspec.specs.declared.declarators.Suffix.TheVariants as part
-use Rattle.pa_reading.specs.declared.rule.Naming.{Naming}
-use Rattle.pa_reading.specs.declared.rule.SynRule.TheVariants.{S1}
-use Rattle.pa_reading.specs.Parser.{Parser, ◌>>◌, pure, refuse, after, needs}
-use Rattle.pa_reading.specs.Reading.{Parsers, array, function, takes_none}
-use Rattle.pa_reading.specs.Tokens.{is_mark}
+use Rattle.pa_grammar.specs.declared.rule.Naming.{Naming}
+use Rattle.pa_grammar.specs.declared.rule.SynRule.TheVariants.{S1}
+use Rattle.pa_grammar.specs.Parser.{Parser, ◌>>◌, pure, refuse, after, needs}
+use Rattle.pa_grammar.specs.Reading.{Parsers, array, function, takes_none}
+use Rattle.pa_grammar.specs.Tokens.{is_mark}
 
 -- a declarator without a name, where one may stand
 abbrev pub absent_at : Naming → ℕ → Parser DeclaratorTree

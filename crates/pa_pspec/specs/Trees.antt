@@ -14,7 +14,7 @@ use Rattle.pa_tree.specs.declared.expr.TypeName.{TypeName}
 use Rattle.pa_tree.specs.Exprs.{ExprTree, SpecsTree, BaseTree, QualifierTree, MemberTree, EnumeratorTree, DeclaratorTree, ParametersTree, ParameterTree, MaybeExprTree, TypeNameTree}
 use Rattle.pa_tree.specs.Heights as heights
 use Rattle.pa_tree.specs.Views as views
-use Rattle.pa_reading.specs.Parts as parts
+use Rattle.pa_grammar.specs.Parts as parts
 
 pub record Tree (A T : Type 0) : Type 0 where
   pub view : A → T

@@ -1,6 +1,6 @@
 //! Where a tree is read.
 
-use pa_reading::TypeNames;
+use pa_grammar::TypeNames;
 
 /// What the reading of a part depends on besides the tokens: the names that are type names, and the depth that is left.
 #[derive(Clone, Copy)]

@@ -8,13 +8,13 @@ ghost use Rattle.pa_tree.specs.Views.{declarator_tree, enumerator_tree, member_t
 ghost use Rattle.pa_pspec.specs.Measures.{Gives, Measures, ReadsStep, MeasuresNext};
 ghost use Rattle.pa_pspec.specs.Rules as rule;
 ghost use Rattle.pa_pspec.specs.Trees as tree;
-ghost use Rattle.pa_reading.specs.Reading as reading;
+ghost use Rattle.pa_grammar.specs.Reading as reading;
 
 use crate::measured::Measured;
 use crate::parts::Parts;
 use crate::type_rules::TypeRules;
+use pa_grammar::{Naming, ParseError, Reader, plain_name};
 use pa_lex::Punct;
-use pa_reading::{Naming, ParseError, Reader, plain_name};
 use pa_tree::{Base, COND_LEVEL, Declarator, Enumerator, Expr, Member, Tag};
 use sqlite_items::{Boxed, Items};
 
@@ -60,7 +60,7 @@ impl<'a, P: Parts> TypeRules<'a, P> {
     }
 
     /// Members that share their specifiers.
-    #[tactic(auto, using(pa_tree::proofs::Views::expr_views), unfolding(pa_reading::specs::Reading::member))]
+    #[tactic(auto, using(pa_tree::proofs::Views::expr_views), unfolding(pa_grammar::specs::Reading::member))]
     fn member(&self, r: &mut Reader<'_>) -> Result<Measured<Member>, ParseError>
         requires types { P.reads_types self.now.parts self.now.at.depth }
         ensures value { Gives tree.member (rule.member self.now.at r.old) result r.new }
@@ -152,7 +152,7 @@ impl<'a, P: Parts> TypeRules<'a, P> {
     }
 
     /// An enumeration constant.
-    #[tactic(auto, using(pa_tree::proofs::Views::expr_views), unfolding(pa_reading::specs::Reading::enumerator))]
+    #[tactic(auto, using(pa_tree::proofs::Views::expr_views), unfolding(pa_grammar::specs::Reading::enumerator))]
     fn enumerator(&self, r: &mut Reader<'_>) -> Result<Measured<Enumerator>, ParseError>
         requires exprs { P.reads_exprs self.now.parts self.now.at.depth }
         requires room { 1 ≤ self.now.at.depth }

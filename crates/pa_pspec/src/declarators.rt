@@ -8,13 +8,13 @@ ghost use Rattle.pa_pspec.specs.Measures.{Gives, Measures};
 ghost use Rattle.pa_pspec.specs.Rules as rule;
 ghost use Rattle.pa_pspec.specs.Suffixes.{absent_at, suffix_ahead, suffix_shown};
 ghost use Rattle.pa_pspec.specs.Trees as tree;
-ghost use Rattle.pa_reading.specs.Reading as reading;
+ghost use Rattle.pa_grammar.specs.Reading as reading;
 
 use crate::measured::Measured;
 use crate::parts::Parts;
 use crate::type_rules::TypeRules;
+use pa_grammar::{Naming, ParseError, Reader, SynRule, TypeNames, begins_type, is_mark, needs};
 use pa_lex::{Kind, NameNumber, Punct, Token};
-use pa_reading::{Naming, ParseError, Reader, SynRule, TypeNames, begins_type, is_mark, needs};
 use pa_tree::{COND_LEVEL, Declarator, Expr};
 use sqlite_items::Boxed;
 
@@ -65,7 +65,7 @@ fn begins_declarator(names: &TypeNames, name: Naming, kind: &Kind) -> bool
 }
 
 /// A declarator where none that begins with a token has room.
-#[tactic(auto, unfolding(pa_reading::specs::Reading::bare_declarator))]
+#[tactic(auto, unfolding(pa_grammar::specs::Reading::bare_declarator))]
 pub fn bare_declarator(
     names: &TypeNames,
     r: &Reader<'_>,
@@ -346,7 +346,7 @@ impl<'a, P: Parts> TypeRules<'a, P> {
     }
 
     /// A declarator.
-    #[tactic(auto, using(pa_tree::proofs::Views::expr_views), unfolding(pa_reading::specs::Reading::declarator_level))]
+    #[tactic(auto, using(pa_tree::proofs::Views::expr_views), unfolding(pa_grammar::specs::Reading::declarator_level))]
     pub fn declarator_level(
         &self,
         r: &mut Reader<'_>,

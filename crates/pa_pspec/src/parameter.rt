@@ -12,8 +12,8 @@ ghost use Rattle.pa_pspec.specs.Voids.{is_void_tree, is_absent_tree};
 use crate::measured::Measured;
 use crate::parts::Parts;
 use crate::type_rules::TypeRules;
+use pa_grammar::{Naming, ParseError, Reader};
 use pa_lex::Punct;
-use pa_reading::{Naming, ParseError, Reader};
 use pa_tree::{Base, Declarator, Parameter, Parameters, Qualifier};
 use sqlite_items::Items;
 
@@ -79,7 +79,7 @@ fn is_only_void(parameters: &[Parameter]) -> bool
 
 impl<'a, P: Parts> TypeRules<'a, P> {
     /// A parameter.
-    #[tactic(auto, using(pa_tree::proofs::Views::expr_views), unfolding(pa_reading::specs::Reading::parameter))]
+    #[tactic(auto, using(pa_tree::proofs::Views::expr_views), unfolding(pa_grammar::specs::Reading::parameter))]
     fn parameter(&self, r: &mut Reader<'_>) -> Result<Measured<Parameter>, ParseError>
         requires types { P.reads_types self.now.parts self.now.at.depth }
         ensures value { Gives tree.parameter (rule.parameter self.now.at r.old) result r.new }

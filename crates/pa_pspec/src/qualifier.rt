@@ -7,13 +7,13 @@ ghost use Rattle.pa_tree.specs.Views.{expr_tree};
 ghost use Rattle.pa_pspec.specs.Measures.{BeginsWith, Measures, ReadsBehind, Gives};
 ghost use Rattle.pa_pspec.specs.Rules as rule;
 ghost use Rattle.pa_pspec.specs.Trees as tree;
-ghost use Rattle.pa_reading.specs.Reading as reading;
+ghost use Rattle.pa_grammar.specs.Reading as reading;
 
 use crate::measured::Measured;
 use crate::parts::Parts;
 use crate::type_rules::TypeRules;
+use pa_grammar::{ParseError, Reader, SynRule, is_word, needs};
 use pa_lex::{Keyword, Punct, Token};
-use pa_reading::{ParseError, Reader, SynRule, is_word, needs};
 use pa_tree::{COND_LEVEL, Expr, Qualifier};
 use sqlite_items::Items;
 

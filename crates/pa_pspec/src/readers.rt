@@ -4,7 +4,7 @@ ghost use Rattle.pa_pspec.specs.Nests.{NestsExpr, NestsOpened, NestsSpecs, Nests
 
 use crate::measured::Measured;
 use crate::parts::Parts;
-use pa_reading::{Naming, ParseError, Reader, TypeNames};
+use pa_grammar::{Naming, ParseError, Reader, TypeNames};
 use pa_tree::{Declarator, Expr, Specs};
 use std::alloc::Global;
 

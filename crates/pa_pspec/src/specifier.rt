@@ -10,8 +10,8 @@ use crate::measured::Measured;
 use crate::parts::Parts;
 use crate::type_rules::TypeRules;
 use crate::word::integer_words;
+use pa_grammar::{ParseError, Reader, SynRule, needs, plain_name};
 use pa_lex::{Keyword, Kind, Punct, Token};
-use pa_reading::{ParseError, Reader, SynRule, needs, plain_name};
 use pa_tree::{Base, IntegerWord, Specs, Tag};
 
 /// What a tag names.
@@ -146,7 +146,7 @@ impl<'a, P: Parts + Copy> TypeRules<'a, P> {
     }
 
     /// What a type is.
-    #[tactic(auto, using(pa_tree::proofs::Views::expr_views), unfolding(pa_reading::specs::Reading::base))]
+    #[tactic(auto, using(pa_tree::proofs::Views::expr_views), unfolding(pa_grammar::specs::Reading::base))]
     fn base(&self, r: &mut Reader<'_>, bodies: bool) -> Result<Measured<Base>, ParseError>
         requires exprs_inside { Inside (P.reads_exprs self.now.parts) self.now.at.depth }
         requires types_inside { Inside (P.reads_types self.now.parts) self.now.at.depth }
@@ -173,7 +173,7 @@ impl<'a, P: Parts + Copy> TypeRules<'a, P> {
     }
 
     /// Specifiers, in the depth itself: their expressions stand in it, and the parts of their bodies in the one below.
-    #[tactic(auto, using(pa_tree::proofs::Views::expr_views, crate::proofs::SameSpecs::specs_whole), unfolding(pa_reading::specs::Reading::specs_level))]
+    #[tactic(auto, using(pa_tree::proofs::Views::expr_views, crate::proofs::SameSpecs::specs_whole), unfolding(pa_grammar::specs::Reading::specs_level))]
     pub fn specs_level(
         &self,
         r: &mut Reader<'_>,

@@ -7,7 +7,7 @@ ghost use Rattle.pa_pspec.specs.Trees as tree;
 use crate::at::At;
 use crate::measured::Measured;
 use crate::parts::Parts;
-use pa_reading::{Naming, ParseError, Reader};
+use pa_grammar::{Naming, ParseError, Reader};
 use pa_tree::{Declarator, Expr, Specs};
 use std::alloc::Global;
 

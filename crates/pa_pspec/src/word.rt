@@ -3,12 +3,12 @@
 ghost use Rattle.std.specs.Prelude.{◌≡◌, ◌∷◌, [], true};
 ghost use Rattle.pa_tree.specs.Operators as grammar;
 ghost use Rattle.pa_pspec.specs.Counted.{counted};
-ghost use Rattle.pa_reading.specs.Parser.{iterate};
-ghost use Rattle.pa_reading.specs.Reading as reading;
-ghost use Rattle.pa_reading.specs.Reads.{Reads};
+ghost use Rattle.pa_grammar.specs.Parser.{iterate};
+ghost use Rattle.pa_grammar.specs.Reading as reading;
+ghost use Rattle.pa_grammar.specs.Reads.{Reads};
 
+use pa_grammar::{ParseError, Reader};
 use pa_lex::Kind;
-use pa_reading::{ParseError, Reader};
 use pa_tree::IntegerWord;
 use sqlite_items::Items;
 use std::alloc::Global;

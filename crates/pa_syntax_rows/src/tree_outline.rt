@@ -1,7 +1,7 @@
 //! Trees and refusals as short texts.
 
+use pa_grammar::SynRule;
 use pa_num::Fault;
-use pa_reading::SynRule;
 use pa_tree::{Base, Declarator, Expr, Parameters, Specs};
 use std::alloc::AllocError;
 use std::fmt::Write;

@@ -6,9 +6,9 @@ ghost use Rattle.std.specs.Prelude.{◌≤◌, length};
 use crate::tree_outline::{
     declarator_ends, ends, write_declarator, write_fault, write_specs, write_tree,
 };
+use pa_grammar::{Level, TypeNames};
 use pa_lex::{NameNumber, Token, lex};
 use pa_pexpr::{declarator, expr, type_specs};
-use pa_reading::{Level, TypeNames};
 use std::alloc::{AllocError, Global};
 use std::fmt::Write;
 use std::test::Fail;
@@ -78,7 +78,14 @@ fn outline(alloc: Global, bytes: &[u8], form: Form, depth: u32) -> Result<String
             return Err(AllocError);
         }
     }
-    write_answer(&mut text, alloc, lexed.tokens.as_slice(), &names, form, depth)?;
+    write_answer(
+        &mut text,
+        alloc,
+        lexed.tokens.as_slice(),
+        &names,
+        form,
+        depth,
+    )?;
     Ok(text)
 }
 

@@ -1,6 +1,6 @@
 use Rattle.std.proofs.Common.{◌≡◌, length}
-use Rattle.pa_reading.specs.Parser.{iterate}
-use Rattle.pa_reading.specs.Reading.{text_step}
+use Rattle.pa_grammar.specs.Parser.{iterate}
+use Rattle.pa_grammar.specs.Reading.{text_step}
 use Rattle.pa_pexpr.proofs.piece.texts.Given as goal
 
 abbrev pub invariant-texts : goal.invariant-texts

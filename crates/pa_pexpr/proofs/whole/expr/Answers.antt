@@ -1,8 +1,8 @@
 use Rattle.std.proofs.Common.{◌-◌, arith}
 use Rattle.pa_tree.specs.Views.{expr_tree}
-use Rattle.pa_reading.specs.Answers.{most_levels, level_number}
-use Rattle.pa_reading.proofs.Forms.{at_level, level_small, expr_reader, expr_readers}
-use Rattle.pa_reading.proofs.Runs.{read_within, answer_read, stop_left, stop_behind, answer_front, answer_refused, answer_stop}
+use Rattle.pa_grammar.specs.Answers.{most_levels, level_number}
+use Rattle.pa_grammar.proofs.Forms.{at_level, level_small, expr_reader, expr_readers}
+use Rattle.pa_grammar.proofs.Runs.{read_within, answer_read, stop_left, stop_behind, answer_front, answer_refused, answer_stop}
 use Rattle.pa_pexpr.proofs.whole.expr.Goals as goal
 
 pub overflow_sub-result : goal.overflow_sub-result

@@ -1,8 +1,8 @@
 use Rattle.std.proofs.Common.{◌≡◌, ◌∷◌, [], ◌++◌, ◌∙◌, ap}
 use Rattle.pa_tree.specs.Operators.{with_word, no_words, is_integer_type}
 use Rattle.pa_pspec.specs.Counted.{counted}
-use Rattle.pa_reading.specs.Parser.{iterate}
-use Rattle.pa_reading.specs.Reading.{word_step}
+use Rattle.pa_grammar.specs.Parser.{iterate}
+use Rattle.pa_grammar.specs.Reading.{word_step}
 use Rattle.pa_pspec.proofs.Words.{first_goes, first_type}
 use Rattle.pa_pspec.proofs.word.integer_words.Goals as goal
 

@@ -1,8 +1,8 @@
 use Rattle.std.proofs.Common.{◌≡◌, ◌∷◌, [], length, true}
 use Rattle.pa_tree.specs.Operators.{no_words, goes_with, is_integer_type}
 use Rattle.pa_pspec.specs.Counted.{counted, with_words}
-use Rattle.pa_reading.specs.Parser.{iterate}
-use Rattle.pa_reading.specs.Reading.{word_step}
+use Rattle.pa_grammar.specs.Parser.{iterate}
+use Rattle.pa_grammar.specs.Reading.{word_step}
 use Rattle.pa_pspec.proofs.word.integer_words.Given as goal
 
 abbrev pub invariant-words : goal.invariant-words

@@ -1,6 +1,6 @@
 use Rattle.std.proofs.Common.{◌≡◌, ◌∷◌, [], length, map}
 use Rattle.pa_tree.specs.Views.{initializer_tree}
-use Rattle.pa_reading.specs.Parser.{iterate}
+use Rattle.pa_grammar.specs.Parser.{iterate}
 use Rattle.pa_pdecl.specs.Reading as reading
 use Rattle.pa_pdecl.specs.Rules as rule
 use Rattle.pa_pdecl.proofs.initializer.Braces.more_initializers.Given as goal

@@ -1,7 +1,7 @@
 use Rattle.std.proofs.Common.{◌≡◌, [], length, map}
 use Rattle.pa_tree.specs.Views.{block_item_tree}
-use Rattle.pa_reading.specs.Parser.{many}
-use Rattle.pa_reading.specs.Reading.{not_brace}
+use Rattle.pa_grammar.specs.Parser.{many}
+use Rattle.pa_grammar.specs.Reading.{not_brace}
 use Rattle.pa_pdecl.specs.Rules as rule
 use Rattle.pa_pdecl.proofs.stmt_rules.StmtRules.block_items.Given as goal
 

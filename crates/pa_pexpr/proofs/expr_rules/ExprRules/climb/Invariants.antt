@@ -2,7 +2,7 @@ use Rattle.std.proofs.Common.{◌≡◌, ◌-◌, ◌≤◌, suc}
 use Rattle.pa_tree.specs.Heights.{expr_height}
 use Rattle.pa_tree.specs.Views.{expr_tree}
 use Rattle.pa_pexpr.specs.Rules as rule
-use Rattle.pa_reading.specs.Reading as reading
+use Rattle.pa_grammar.specs.Reading as reading
 use Rattle.pa_pexpr.proofs.expr_rules.ExprRules.climb.Given as goal
 
 abbrev pub invariant-loop-turn : goal.invariant-loop-turn

@@ -3,7 +3,7 @@ use Rattle.pa_lex.specs.declared.token.Punct.TheVariants as p
 use Rattle.pa_tree.specs.Heights.{exprs_height}
 use Rattle.pa_tree.specs.Views.{expr_tree, exprs_of}
 use Rattle.pa_pexpr.specs.Rules as rule
-use Rattle.pa_reading.specs.Parser.{many, sees}
+use Rattle.pa_grammar.specs.Parser.{many, sees}
 use Rattle.pa_pexpr.proofs.expr_rules.ExprRules.more_arguments.Given as goal
 
 abbrev pub invariant-arguments : goal.invariant-arguments

@@ -1,10 +1,10 @@
 use Rattle.std.proofs.Common.{◌≡◌, ◌≤◌, ◌-◌, ◌∷◌, [], rules, arith, Ok, Err, sym, ◌∙◌, ap}
 use Rattle.pa_tree.specs.Views.{declarator_tree}
 use Rattle.pa_lex.specs.declared.token.Punct.TheVariants as p
-use Rattle.pa_reading.specs.Parser.{many, sees}
+use Rattle.pa_grammar.specs.Parser.{many, sees}
 use Rattle.pa_pspec.proofs.Bodies.{takes_declarator}
 use Rattle.pa_pspec.proofs.ListHeights.{declarators_height}
-use Rattle.pa_reading.proofs.Turned.{eats_is, list_more, list_stops, list_ends}
+use Rattle.pa_grammar.proofs.Turned.{eats_is, list_more, list_stops, list_ends}
 use Rattle.pa_pspec.specs.Rules as rule
 use Rattle.pa_pspec.proofs.type_rules.TypeRules.more_declarators.Goals as goal
 

@@ -1,7 +1,7 @@
 use Rattle.std.proofs.Common.{◌≡◌, ◌≤◌, ◌∷◌, [], length, map}
 use Rattle.pa_tree.specs.Views.{enumerator_tree}
-use Rattle.pa_reading.specs.Parser.{iterate}
-use Rattle.pa_reading.specs.Parts.{height_of_enumerators}
+use Rattle.pa_grammar.specs.Parser.{iterate}
+use Rattle.pa_grammar.specs.Parts.{height_of_enumerators}
 use Rattle.pa_pspec.specs.Rules as rule
 use Rattle.pa_pspec.proofs.type_rules.TypeRules.more_enumerators.Given as goal
 

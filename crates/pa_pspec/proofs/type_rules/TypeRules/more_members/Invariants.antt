@@ -1,8 +1,8 @@
 use Rattle.std.proofs.Common.{◌≡◌, ◌≤◌, ◌∷◌, [], length, map}
 use Rattle.pa_tree.specs.Views.{member_tree}
-use Rattle.pa_reading.specs.Parser.{many}
-use Rattle.pa_reading.specs.Parts.{height_of_members}
-use Rattle.pa_reading.specs.Reading.{not_brace}
+use Rattle.pa_grammar.specs.Parser.{many}
+use Rattle.pa_grammar.specs.Parts.{height_of_members}
+use Rattle.pa_grammar.specs.Reading.{not_brace}
 use Rattle.pa_pspec.specs.Rules as rule
 use Rattle.pa_pspec.proofs.type_rules.TypeRules.more_members.Given as goal
 

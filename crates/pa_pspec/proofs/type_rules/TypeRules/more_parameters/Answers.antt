@@ -1,11 +1,11 @@
 use Rattle.std.proofs.Common.{◌≡◌, ◌≤◌, ◌-◌, ◌∷◌, [], rules, arith, Ok, Err, sym, ◌∙◌, ap}
 use Rattle.pa_tree.specs.Views.{parameter_tree}
 use Rattle.pa_lex.specs.declared.token.Punct.TheVariants as p
-use Rattle.pa_reading.specs.Parser.{many, sees}
-use Rattle.pa_reading.specs.Reading.{parameter}
+use Rattle.pa_grammar.specs.Parser.{many, sees}
+use Rattle.pa_grammar.specs.Reading.{parameter}
 use Rattle.pa_pspec.proofs.DeclaratorParts.{takes_parameter}
 use Rattle.pa_pspec.proofs.ListHeights.{parameters_height}
-use Rattle.pa_reading.proofs.Turned.{eats_is, list_more, list_stops, list_ends}
+use Rattle.pa_grammar.proofs.Turned.{eats_is, list_more, list_stops, list_ends}
 use Rattle.pa_pspec.specs.Rules as rule
 use Rattle.pa_pspec.proofs.type_rules.TypeRules.more_parameters.Goals as goal
 

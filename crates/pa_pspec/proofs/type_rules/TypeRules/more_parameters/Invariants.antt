@@ -1,8 +1,8 @@
 use Rattle.std.proofs.Common.{◌≡◌, ◌≤◌, ◌∷◌, [], length, map}
 use Rattle.pa_lex.specs.declared.token.Punct.TheVariants as p
 use Rattle.pa_tree.specs.Views.{parameter_tree}
-use Rattle.pa_reading.specs.Parser.{many, sees}
-use Rattle.pa_reading.specs.Parts.{height_of_parameters}
+use Rattle.pa_grammar.specs.Parser.{many, sees}
+use Rattle.pa_grammar.specs.Parts.{height_of_parameters}
 use Rattle.pa_pspec.specs.Rules as rule
 use Rattle.pa_pspec.proofs.type_rules.TypeRules.more_parameters.Given as goal
 

@@ -1,8 +1,8 @@
 use Rattle.std.proofs.Common.{◌≡◌, ◌<◌, ◌≤◌, ◌-◌, ◌+◌, ◌∷◌, [], ◌++◌, map, drop, rules, arith, Ok, Err, sym, ◌∙◌, ap}
 use Rattle.std.proofs.lemmas.List.{map-append}
 use Rattle.pa_tree.specs.Views.{expr_tree}
-use Rattle.pa_reading.specs.Parser.{Stop}
-use Rattle.pa_reading.specs.Reading.{parsers}
+use Rattle.pa_grammar.specs.Parser.{Stop}
+use Rattle.pa_grammar.specs.Reading.{parsers}
 use Rattle.pa_pspec.proofs.ListHeights.{exprs_height}
 use Rattle.pa_pspec.proofs.Qualifiers.{conds_behind, conds_more, conds_fail, conds_full, comma_seen, first_kept, rest_kept}
 use Rattle.pa_pspec.proofs.type_rules.TypeRules.ptrauth_arguments.Goals as goal

@@ -1,7 +1,7 @@
 use Rattle.std.proofs.Common.{◌≡◌, ◌≤◌, ◌-◌, ◌∷◌, drop, map}
 use Rattle.pa_tree.specs.Views.{expr_tree}
-use Rattle.pa_reading.specs.Parts.{height_of_exprs}
-use Rattle.pa_reading.specs.Reading.{parsers, conds}
+use Rattle.pa_grammar.specs.Parts.{height_of_exprs}
+use Rattle.pa_grammar.specs.Reading.{parsers, conds}
 use Rattle.pa_pspec.proofs.Qualifiers.{conds_behind}
 use Rattle.pa_pspec.proofs.type_rules.TypeRules.ptrauth_arguments.Given as goal
 

@@ -1,11 +1,11 @@
 use Rattle.std.proofs.Common.{◌≡◌, ◌≤◌, ◌-◌, ◌∷◌, [], rules, arith, Ok, Err, sym, ◌∙◌, ap}
 use Rattle.std.proofs.lemmas.Grind.{common_steps}
 use Rattle.pa_tree.specs.Views.{qualifier_tree}
-use Rattle.pa_reading.specs.Parser.{many}
-use Rattle.pa_reading.specs.Reading.{qualifier, qualifiers, begins_qualifier}
+use Rattle.pa_grammar.specs.Parser.{many}
+use Rattle.pa_grammar.specs.Reading.{qualifier, qualifiers, begins_qualifier}
 use Rattle.pa_pspec.proofs.Qualifiers.{takes_qualifier}
 use Rattle.pa_pspec.proofs.ListHeights.{qualifiers_height}
-use Rattle.pa_reading.proofs.Turned.{eats_is, list_more, list_stops, list_ends}
+use Rattle.pa_grammar.proofs.Turned.{eats_is, list_more, list_stops, list_ends}
 use Rattle.pa_pspec.specs.Rules as rule
 use Rattle.pa_pspec.proofs.type_rules.TypeRules.qualifiers.Goals as goal
 

@@ -1,8 +1,8 @@
 use Rattle.std.proofs.Common.{◌≡◌, ◌≤◌, [], length, map}
 use Rattle.pa_tree.specs.Views.{qualifier_tree}
-use Rattle.pa_reading.specs.Parser.{many}
-use Rattle.pa_reading.specs.Parts.{height_of_qualifiers}
-use Rattle.pa_reading.specs.Reading.{begins_qualifier}
+use Rattle.pa_grammar.specs.Parser.{many}
+use Rattle.pa_grammar.specs.Parts.{height_of_qualifiers}
+use Rattle.pa_grammar.specs.Reading.{begins_qualifier}
 use Rattle.pa_pspec.specs.Rules as rule
 use Rattle.pa_pspec.proofs.type_rules.TypeRules.qualifiers.Given as goal
 

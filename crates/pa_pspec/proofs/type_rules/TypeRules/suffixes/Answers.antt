@@ -1,8 +1,8 @@
 use Rattle.std.proofs.Common.{◌≡◌, ◌≤◌, ◌<◌, ◌-◌, ◌+◌, suc, Ok, Err, rules, arith, sym, ◌∙◌, ap}
 use Rattle.pa_tree.specs.Heights.{declarator_height}
 use Rattle.pa_tree.specs.Views.{declarator_tree}
-use Rattle.pa_reading.specs.Parser.{Stop}
-use Rattle.pa_reading.specs.Reading.{parsers}
+use Rattle.pa_grammar.specs.Parser.{Stop}
+use Rattle.pa_grammar.specs.Reading.{parsers}
 use Rattle.pa_pspec.specs.Suffixes.{suffix_of, suffix_shown}
 use Rattle.pa_pspec.proofs.DeclaratorParts.{suffixes_done, suffixes_more, suffixes_fail, suffixes_full}
 use Rattle.pa_pspec.proofs.type_rules.TypeRules.suffixes.Goals as goal

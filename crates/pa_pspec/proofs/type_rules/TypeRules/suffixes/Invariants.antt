@@ -1,7 +1,7 @@
 use Rattle.std.proofs.Common.{◌≡◌, ◌≤◌, ◌-◌, suc}
 use Rattle.pa_tree.specs.Heights.{declarator_height}
 use Rattle.pa_tree.specs.Views.{declarator_tree}
-use Rattle.pa_reading.specs.Reading.{parsers, suffixes}
+use Rattle.pa_grammar.specs.Reading.{parsers, suffixes}
 use Rattle.pa_pspec.proofs.type_rules.TypeRules.suffixes.Given as goal
 
 abbrev pub invariant-loop-turn : goal.invariant-loop-turn
