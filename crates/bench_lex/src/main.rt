@@ -102,7 +102,11 @@ fn main(rt: HostRuntime) -> io::Result<()> {
     }
     for _ in 0..times {
         match lex(rt.alloc(), &text) {
-            Ok(lexed) => println!(rt; "{} tokens, {} names", lexed.tokens.len(), lexed.names.len())?,
+            Ok(lexed) => println!(rt;
+                "{} tokens, {} names",
+                lexed.tokens.len(),
+                lexed.names.len()
+            )?,
             Err(Fault::Refused { rule, place }) => println!(rt; "{rule:?} {place}")?,
             Err(Fault::Memory) => println!(rt; "memory")?,
         }
