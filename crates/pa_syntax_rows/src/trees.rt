@@ -73,7 +73,8 @@ fn outline(alloc: Global, bytes: &[u8], form: Form, depth: u32) -> Result<String
         return Ok(text);
     };
     let mut names = TypeNames::new(alloc);
-    for number in 0..lexed.names.len() as NameNumber {
+    let count = NameNumber::try_from(lexed.names.len()).unwrap_or(NameNumber::MAX);
+    for number in 0..count {
         if lexed.names.get(number) == Some(b"T".as_slice()) && names.push(number).is_err() {
             return Err(AllocError);
         }
