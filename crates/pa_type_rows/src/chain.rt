@@ -1,4 +1,4 @@
-//! `typedef T0 (*T1)(T0); typedef T1 (*T2)(T1); ..`: written out, each type is twice the one before.
+//! `typedef first (*second)(first); typedef second (*third)(second); ..`: written out, each type is twice the one before.
 ghost use Rattle.std.specs.Prelude.{◌<◌, ◌≤◌, length, IfOk};
 
 use crate::samples::SCHEMA;
