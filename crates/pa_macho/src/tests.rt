@@ -1,3 +1,5 @@
+mod fronts;
+
 use crate::{FRONT, Header, Role, header_fits, read_header, write_header};
 use pa_num::{Fault, ImageRule};
 use std::alloc::Global;
@@ -29,14 +31,20 @@ const LIBRARY: Header = Header {
     strings: 19,
 };
 
-/// A file that has the header, and zeros where its parts are.
-fn file(alloc: Global, header: &Header) -> Result<Vec<u8>, Fail> {
+/// The bytes before `__text` of the files that have the header.
+fn front(alloc: Global, header: &Header) -> Result<Vec<u8>, Fail> {
     if !header_fits(header) {
         return Err(Fail::from("header"));
     }
-    let Ok(mut bytes) = write_header(alloc, header) else {
+    let Ok(bytes) = write_header(alloc, header) else {
         return Err(Fail::from("memory"));
     };
+    Ok(bytes)
+}
+
+/// A file that has the header, and zeros where its parts are.
+fn file(alloc: Global, header: &Header) -> Result<Vec<u8>, Fail> {
+    let mut bytes = front(alloc, header)?;
     let end = header.places().end;
     for _ in 0..0x10_0000 {
         if bytes.len() as u128 >= end {
@@ -65,6 +73,23 @@ fn spells_both_roles(rt: HostRuntime) -> Result<(), Fail> {
     assert_eq!(rt; &program[808..824], b"libpal.dylib\0\0\0\0".as_slice());
     assert_eq!(rt; &library[712..728], b"libpal.dylib\0\0\0\0".as_slice());
     assert_eq!(rt; FRONT, 0x400);
+    Ok(())
+}
+
+#[test]
+fn spells_every_field(rt: HostRuntime) -> Result<(), Fail> {
+    let cases = [
+        (fronts::PROGRAM, fronts::PROGRAM_WORDS.as_slice()),
+        (fronts::LIBRARY, fronts::LIBRARY_WORDS.as_slice()),
+    ];
+    for (header, words) in cases {
+        let mut expected = Vec::new(rt.alloc());
+        for word in words {
+            expected.extend_from_slice(&word.to_le_bytes())?;
+        }
+        expected.resize(FRONT, 0)?;
+        assert_eq!(rt; front(rt.alloc(), &header)?.as_slice(), expected.as_slice());
+    }
     Ok(())
 }
 
