@@ -122,82 +122,28 @@ fn spells_every_part(rt: HostRuntime) -> Result<(), Fail> {
 }
 
 #[test]
-fn tells_where_a_cut_file_breaks(rt: HostRuntime) -> Result<(), Fail> {
-    let bytes = file(rt.alloc(), &PROGRAM)?;
+fn tells_where_a_cut_or_longer_file_breaks(rt: HostRuntime) -> Result<(), Fail> {
     let cuts = [
-        (0, ImageRule::H1, 0),
-        (31, ImageRule::H1, 0),
-        (32, ImageRule::H2, 20),
-        (823, ImageRule::H2, 20),
-        (824, ImageRule::H3, 152),
-        (16_383, ImageRule::H3, 152),
-        (16_384, ImageRule::H3, 464),
-        (32_767, ImageRule::H3, 464),
-        (32_768, ImageRule::H3, 696),
-        (32_878, ImageRule::H3, 696),
+        (PROGRAM, 0, ImageRule::H1, 0),
+        (PROGRAM, 31, ImageRule::H1, 0),
+        (PROGRAM, 32, ImageRule::H2, 20),
+        (PROGRAM, 823, ImageRule::H2, 20),
+        (PROGRAM, 824, ImageRule::H3, 152),
+        (PROGRAM, 16_383, ImageRule::H3, 152),
+        (PROGRAM, 16_384, ImageRule::H3, 464),
+        (PROGRAM, 32_767, ImageRule::H3, 464),
+        (PROGRAM, 32_768, ImageRule::H3, 696),
+        (PROGRAM, 32_878, ImageRule::H3, 696),
+        (PROGRAM, 32_880, ImageRule::H3, 32_879),
+        (LIBRARY, 727, ImageRule::H2, 20),
+        (LIBRARY, 728, ImageRule::H3, 80),
+        (LIBRARY, 16_384, ImageRule::H3, 392),
+        (LIBRARY, 32_768, ImageRule::H3, 624),
+        (LIBRARY, 32_908, ImageRule::H3, 32_907),
     ];
-    for (len, rule, place) in cuts {
-        assert!(rt; len < bytes.len());
-        let answer = read_header(&bytes[..len]);
-        assert_eq!(rt; answer, Err(Fault::Refused { rule, place }), "at {len}");
-    }
-    Ok(())
-}
-
-#[test]
-fn tells_which_field_breaks(rt: HostRuntime) -> Result<(), Fail> {
-    // A byte that changes in the program's file, and the flaw.
-    let changes = [
-        (0, 0, ImageRule::H1, 0),
-        (8, 0, ImageRule::H1, 8),
-        (12, 3, ImageRule::H1, 12),
-        (12, 6, ImageRule::H1, 24),
-        (16, 9, ImageRule::H2, 16),
-        (36, 1, ImageRule::H2, 32),
-        (32, 0x1a, ImageRule::H4, 32),
-        (784, 0xd, ImageRule::H4, 784),
-        (56, 1, ImageRule::H3, 56),
-        (216, 46, ImageRule::H3, 216),
-        (216, 240, ImageRule::H3, 288),
-        (769, 0, ImageRule::H3, 768),
-        (1_023, 1, ImageRule::H3, 1_023),
-        (1_068, 1, ImageRule::H3, 1_068),
-        (20_000, 1, ImageRule::H3, 20_000),
-        (32_855, 1, ImageRule::H3, 32_855),
-    ];
-    for (at, byte, rule, place) in changes {
-        let mut bytes = file(rt.alloc(), &PROGRAM)?;
-        assert!(rt; at < bytes.len());
-        bytes[at] = byte;
-        let answer = read_header(&bytes);
-        assert_eq!(rt; answer, Err(Fault::Refused { rule, place }), "at {at}");
-    }
-    let mut longer = file(rt.alloc(), &PROGRAM)?;
-    longer.push(0)?;
-    let answer = read_header(&longer);
-    let place = 32_879;
-    assert_eq!(rt;
-        answer,
-        Err(Fault::Refused {
-            rule: ImageRule::H3,
-            place
-        })
-    );
-    Ok(())
-}
-
-#[test]
-fn tells_where_a_cut_library_breaks(rt: HostRuntime) -> Result<(), Fail> {
-    let mut bytes = file(rt.alloc(), &LIBRARY)?;
-    bytes.push(0)?;
-    let cuts = [
-        (727, ImageRule::H2, 20),
-        (728, ImageRule::H3, 80),
-        (16_384, ImageRule::H3, 392),
-        (32_768, ImageRule::H3, 624),
-        (32_908, ImageRule::H3, 32_907),
-    ];
-    for (len, rule, place) in cuts {
+    for (header, len, rule, place) in cuts {
+        let mut bytes = file(rt.alloc(), &header)?;
+        bytes.push(0)?;
         assert!(rt; len <= bytes.len());
         let answer = read_header(&bytes[..len]);
         assert_eq!(rt; answer, Err(Fault::Refused { rule, place }), "at {len}");
@@ -206,19 +152,35 @@ fn tells_where_a_cut_library_breaks(rt: HostRuntime) -> Result<(), Fail> {
 }
 
 #[test]
-fn tells_which_field_of_a_library_breaks(rt: HostRuntime) -> Result<(), Fail> {
-    // A byte that changes in the library's file, and the flaw.
+fn tells_which_field_breaks(rt: HostRuntime) -> Result<(), Fail> {
+    // A byte that changes in a header's file, and the flaw.
     let changes = [
-        (12, 2, ImageRule::H1, 24),
-        (16, 8, ImageRule::H2, 16),
-        (36, 72, ImageRule::H2, 32),
-        (688, 0xc, ImageRule::H4, 688),
-        (600, 1, ImageRule::H3, 600),
-        (712, 0, ImageRule::H3, 712),
-        (728, 1, ImageRule::H3, 728),
+        (PROGRAM, 0, 0, ImageRule::H1, 0),
+        (PROGRAM, 8, 0, ImageRule::H1, 8),
+        (PROGRAM, 12, 3, ImageRule::H1, 12),
+        (PROGRAM, 12, 6, ImageRule::H1, 24),
+        (PROGRAM, 16, 9, ImageRule::H2, 16),
+        (PROGRAM, 36, 1, ImageRule::H2, 32),
+        (PROGRAM, 32, 0x1a, ImageRule::H4, 32),
+        (PROGRAM, 784, 0xd, ImageRule::H4, 784),
+        (PROGRAM, 56, 1, ImageRule::H3, 56),
+        (PROGRAM, 216, 46, ImageRule::H3, 216),
+        (PROGRAM, 216, 240, ImageRule::H3, 288),
+        (PROGRAM, 769, 0, ImageRule::H3, 768),
+        (PROGRAM, 1_023, 1, ImageRule::H3, 1_023),
+        (PROGRAM, 1_068, 1, ImageRule::H3, 1_068),
+        (PROGRAM, 20_000, 1, ImageRule::H3, 20_000),
+        (PROGRAM, 32_855, 1, ImageRule::H3, 32_855),
+        (LIBRARY, 12, 2, ImageRule::H1, 24),
+        (LIBRARY, 16, 8, ImageRule::H2, 16),
+        (LIBRARY, 36, 72, ImageRule::H2, 32),
+        (LIBRARY, 688, 0xc, ImageRule::H4, 688),
+        (LIBRARY, 600, 1, ImageRule::H3, 600),
+        (LIBRARY, 712, 0, ImageRule::H3, 712),
+        (LIBRARY, 728, 1, ImageRule::H3, 728),
     ];
-    for (at, byte, rule, place) in changes {
-        let mut bytes = file(rt.alloc(), &LIBRARY)?;
+    for (header, at, byte, rule, place) in changes {
+        let mut bytes = file(rt.alloc(), &header)?;
         assert!(rt; at < bytes.len());
         bytes[at] = byte;
         let answer = read_header(&bytes);
