@@ -5,15 +5,16 @@ mod Depth
 mod Examples
 mod Extents
 mod Finding
+mod Forms
 mod Functions
 mod Growth
-mod KeptGrowth
+pub mod KeptGrowth
 mod KindLaws
 pub mod Laws
 pub mod Laying
 mod NodeTable
 pub mod Objects
 mod RaisedLaws
-mod Results
+pub mod Results
 mod Sameness
 mod TypeLaws

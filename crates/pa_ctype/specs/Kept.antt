@@ -11,8 +11,9 @@ use Rattle.pa_ctype.specs.declared.node.Extent.TheVariants.{Nowhere, Fixed, Stru
 use Rattle.pa_ctype.specs.declared.node.Facts.{Facts}
 use Rattle.pa_ctype.specs.declared.structs.LaidBody.{LaidBody}
 use Rattle.pa_ctype.specs.Types.{TypeTree}
-use Rattle.pa_ctype.specs.Nodes.{Fits, IsTable}
+use Rattle.pa_ctype.specs.Nodes.{Fits, Each, IsTable}
 use Rattle.pa_ctype.specs.Tables.{AreApart, types_bound, names_bound}
+use Rattle.pa_ctype.specs.Bounds.{is_formed_by}
 use Rattle.pa_ctype.specs.Layouts.{Body, Table, most_bytes, times, placed, empty, members_from, struct_layout, layout_by, layout_in, member_from, fields_of, table_of, IsSoundBody}
 
 -- what contracts see: the members alone
@@ -87,4 +88,5 @@ AreKnown bodies types names = (id : ℕ) (body : LaidBody) → slice_get bodies 
 pub record AreTypes (nodes : List Node) (facts : List Facts) (bodies : List (Option LaidBody)) (n : ℕ) : Type 0 where
   pub table : IsTable nodes facts
   pub known : AreKnown bodies (length nodes) n
+  pub formed : Each (is_formed_by (length bodies) (layout_by (kept_layout bodies))) nodes
   pub kept : (names : ℕ → List ℕ) (m : ℕ → TypeTree) → Fits m nodes → IsKept n names m bodies

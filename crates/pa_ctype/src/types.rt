@@ -1,14 +1,16 @@
 ghost use Rattle.std.specs.Prelude.{◌≡◌, ◌<◌, ◌≤◌, ◌+◌, ◌^◌, ◌↔◌, ◌++◌, ◌∷◌, [], ℕ, List, length, map, slice_get, slice_set, Some, None, IsTrue, IfOk, IfSome, OnOk, OnErr, true, false};
 ghost use Rattle.std.specs.Option.{option_copied, option_and_then, option_map};
-ghost use Rattle.pa_ctype.specs.Types.{Of, Function, trees_of, type_depth};
+ghost use Rattle.pa_ctype.specs.Types.{Of, Function, trees_of, type_depth, array_of};
 ghost use Rattle.pa_ctype.specs.Qualifiers as qualifiers;
 ghost use Rattle.pa_ctype.specs.Equality as equality;
 ghost use Rattle.pa_ctype.specs.Nodes.{tree, at, Fits, AllBelow, Below, IsProper, schema_of};
 ghost use Rattle.pa_ctype.specs.Tables.{types_bound, names_bound, ForTypes, ForStructs, ForNamed, IsSoundIn};
 ghost use Rattle.pa_ctype.specs.Layouts as spec;
+ghost use Rattle.pa_ctype.specs.Bounds.{is_formed, IsStructOf, HoldsComplete};
 ghost use Rattle.pa_ctype.specs.Shapes.{shape_of};
 
 use crate::ctype::{Layout, Member, Members};
+use crate::layouts::times;
 use crate::node::{Node, Qualifier, Shape};
 use crate::nodes::{Nodes, facts_at, node_at, put, put_constant, put_function, reserve};
 use crate::structs::{LaidBody, body_of, laid_body, type_layout};
@@ -67,10 +69,13 @@ impl Types {
         self.nodes.is_empty()
     }
 
-    /// The number of the type of a node. After want of memory the table is as before.
+    /// The number of the type of a node. `layout_of` and `array_layout` tell whether what an array holds is complete (C11
+    /// 6.7.6.2p1). After want of memory the table is as before.
     pub fn put(&mut self, node: Node) -> Result<u32, Memory>
         requires below { Below (length self.old.nodes) node }
         requires proper { IsProper (at self.old.nodes) node }
+        requires id { IsStructOf (length self.old.structs) node }
+        requires complete { HoldsComplete self.old node }
         ensures known { IfOk result (λ n. n < length self.new.nodes) }
         ensures is { IfOk result (λ n. ForTypes self.new (λ m. m n ≡ tree m node)) }
         ensures longer { length self.old.nodes ≤ length self.new.nodes }
@@ -263,8 +268,18 @@ impl Types {
         requires { number < length self.now.nodes }
         ensures answer { ForStructs self.now (λ table m. spec.IsLayoutOf table (m number) result) }
         ensures value { ForStructs self.now (λ table m. result ≡ spec.layout_in table (m number)) }
+        ensures formed { ForStructs self.now (λ table m. IsTrue (is_formed table (m number))) }
     {
         type_layout(&self.nodes, self.bodies.as_slice(), number)
+    }
+
+    /// The layout of an array of so many elements of a type, which need not be in the table. None: it has none, as `layout_of` says.
+    pub fn array_layout(&self, of: u32, count: u64) -> Option<Layout>
+        requires { of < length self.now.nodes }
+        ensures answer { ForStructs self.now (λ table m. spec.IsLayoutOf table (array_of (m of) count) result) }
+        ensures value { ForStructs self.now (λ table m. result ≡ spec.layout_in table (array_of (m of) count)) }
+    {
+        times(count, self.layout_of(of)?)
     }
 
     /// How many bytes an object of a type has (`sizeof`, C11 6.5.3.4).
