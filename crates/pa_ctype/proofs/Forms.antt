@@ -143,13 +143,13 @@ HoldsBy lay m _ = Unit {0}
 
 module _ (n : ℕ) (lay : TypeTree → Option Layout) where
   -- by its parts
-  formed : (t : TypeTree) → id_bound t ≤ n → fits_by lay t ≡ true → is_formed_by n lay t ≡ true
+  pub formed : (t : TypeTree) → id_bound t ≤ n → fits_by lay t ≡ true → is_formed_by n lay t ≡ true
   formed t h e = and_from (nat_le (id_bound t) n) (fits_by lay t) (grind (arith, nat_tests)) e
 
   pub formed_bound : (t : TypeTree) → is_formed_by n lay t ≡ true → id_bound t ≤ n
   formed_bound t e = let p = (and_parts (nat_le (id_bound t) n) (fits_by lay t) e).0 in grind (arith, nat_tests)
 
-  formed_fits : (t : TypeTree) → is_formed_by n lay t ≡ true → fits_by lay t ≡ true
+  pub formed_fits : (t : TypeTree) → is_formed_by n lay t ≡ true → fits_by lay t ≡ true
   formed_fits t e = (and_parts (nat_le (id_bound t) n) (fits_by lay t) e).1
 
   formed_returns : (r : TypeTree) → is_formed_by n lay r ≡ true → is_formed_by n lay (Of false (Function Nil r)) ≡ true

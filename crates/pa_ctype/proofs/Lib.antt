@@ -6,8 +6,10 @@ mod Examples
 mod Extents
 mod Finding
 mod Forms
-mod Functions
+pub mod Functions
 mod Growth
+mod Joining
+mod Keeping
 pub mod KeptGrowth
 mod KindLaws
 pub mod Laws

@@ -7,15 +7,17 @@ ghost use Rattle.pa_ctype.specs.Nodes.{tree, at, Fits, AllBelow, Below, IsProper
 ghost use Rattle.pa_ctype.specs.Tables.{types_bound, names_bound, ForTypes, ForStructs, ForNamed, IsSoundIn};
 ghost use Rattle.pa_ctype.specs.Layouts as spec;
 ghost use Rattle.pa_ctype.specs.Bounds.{is_formed, IsStructOf, HoldsComplete};
+ghost use Rattle.pa_ctype.specs.Joined.{AreRaised, AreFollowed};
 ghost use Rattle.pa_ctype.specs.Shapes.{shape_of};
 
 use crate::ctype::{Layout, Member, Members};
+use crate::joined::{put_raised, raised_bodies};
 use crate::layouts::times;
 use crate::node::{Node, Qualifier, Shape};
 use crate::nodes::{Nodes, facts_at, node_at, put, put_constant, put_function, reserve};
 use crate::structs::{LaidBody, body_of, laid_body, type_layout};
 use indexmap::IndexMap;
-use pa_num::Memory;
+use pa_num::{Memory, Sequence};
 use pa_pac::Schema;
 use sqlite_items::Items;
 use std::alloc::{AllocError, Global};
@@ -331,5 +333,53 @@ impl Types {
     {
         let body = body_of(self.bodies.as_slice(), id)?;
         body.places.get(&name).copied()
+    }
+}
+
+/// A table with the types and structs of a file behind its own.
+#[derive(Drop)]
+pub struct Joined {
+    pub types: Types,
+    /// The number that each type of the file has in the table.
+    pub numbers: Sequence<u32>,
+}
+
+impl Types {
+    /// This table with the types and structs of a file behind its own: the ids of the file's structs are raised by the count of
+    /// those that stand here. `names` has the number here of each name of the file.
+    pub fn followed_by(self, alloc: Global, file: &Types, names: &[u32]) -> Result<Joined, Memory>
+        requires structs { length self.structs + length file.now.structs < 2 ^ 32 }
+        requires count { length names.now ≡ file.now.names }
+        requires names { AllBelow self.names names.now }
+        ensures count { IfOk result (λ joined. length joined.numbers ≡ length file.now.nodes) }
+        ensures known { IfOk result (λ joined. AllBelow (length joined.types.nodes) joined.numbers) }
+        ensures types { IfOk result (λ joined. ForTypes file.now (λ f. ForTypes joined.types (λ m. AreRaised (length self.structs) joined.numbers f m))) }
+        ensures grows { IfOk result (λ joined. ForTypes joined.types (λ m. Fits m self.nodes)) }
+        ensures structs { IfOk result (λ joined. AreFollowed self file.now names.now joined.types) }
+        ensures names { IfOk result (λ joined. joined.types.names ≡ self.names) }
+    {
+        let Types {
+            mut nodes,
+            mut bodies,
+            names: name_count,
+        } = self;
+        let structs = bodies.len() as u32;
+        let numbers = put_raised(alloc, &mut nodes, &file.nodes, structs)?;
+        let raised = raised_bodies(
+            alloc,
+            &file.nodes,
+            file.bodies.as_slice(),
+            numbers.as_slice(),
+            names,
+        )?;
+        bodies.append(raised)?;
+        Ok(Joined {
+            types: Types {
+                nodes,
+                bodies,
+                names: name_count,
+            },
+            numbers,
+        })
     }
 }
