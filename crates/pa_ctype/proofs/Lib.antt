@@ -5,15 +5,18 @@ mod Depth
 mod Examples
 mod Extents
 mod Finding
-mod Functions
+mod Forms
+pub mod Functions
 mod Growth
-mod KeptGrowth
+mod Joining
+mod Keeping
+pub mod KeptGrowth
 mod KindLaws
 pub mod Laws
 pub mod Laying
 mod NodeTable
 pub mod Objects
 mod RaisedLaws
-mod Results
+pub mod Results
 mod Sameness
 mod TypeLaws
