@@ -1,4 +1,4 @@
-use crate::{
+use pa_a64::{
     AuthenticateOp, BitfieldOp, BranchAuthenticatedOp, BranchOp, Instr, LoadStorePairOp,
     LoadStoreUnscaledOp, MoveWideOp, PlainOp, StackOp, SumImmediateOp, decode, encode, in_range,
 };

@@ -1,5 +1,5 @@
-use crate::{AsmRule, assemble};
 use pa_a64::Instr;
+use pa_asm::{AsmRule, assemble};
 use pa_num::Fault;
 use pa_object::{Object, RefKind};
 use std::alloc::Global;

@@ -1,5 +1,5 @@
-use crate::{Form, Kind, Line, Operand, Value, instruction, read_line};
 use pa_a64::{Instr, LoadStorePairOp};
+use pa_asmline::{Form, Kind, Line, Operand, Value, instruction, read_line};
 
 const fn number(negative: bool, count: u32) -> Value {
     Value::Number { negative, count }
