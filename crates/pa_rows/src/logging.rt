@@ -1,4 +1,4 @@
-use crate::{Entry, Event, Log, Way, When};
+use pa_log::{Entry, Event, Log, Way, When};
 use pa_num::Memory;
 use pa_pac::Key;
 

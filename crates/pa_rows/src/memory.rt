@@ -1,6 +1,6 @@
 ghost use Rattle.std.specs.Prelude.{◌≡◌, IfOk, length};
 
-use crate::{Abort, Rights, Size, Space};
+use pa_mem::{Abort, Rights, Size, Space};
 use pa_num::{Bytes, Memory};
 use std::alloc::Global;
 
