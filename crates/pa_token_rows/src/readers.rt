@@ -1,4 +1,6 @@
-use crate::{ParseError, Reader, SynRule, TypeNames, begins_type, needs};
+//! A reader's first steps, and marks of type names.
+
+use pa_grammar::{ParseError, Reader, SynRule, TypeNames, begins_type, needs};
 use pa_lex::{Punct, lex};
 
 /// `( int`: a mark and a type.

@@ -1,5 +1,7 @@
-use crate::{BinaryOperator, IntegerWord, PrefixOperator};
+//! Levels of operators, and what tokens stand for one.
+
 use pa_lex::{Keyword, Punct};
+use pa_tree::{BinaryOperator, IntegerWord, PrefixOperator};
 
 /// Operators from the loosest to the tightest, as C11 6.5 has them, and where their right operands begin.
 #[test]

@@ -1,7 +1,7 @@
 //! Cases by hand: each kind of token, each rule, each escape, and tokens that could join.
 ghost use Rattle.std.specs.Prelude.{◌≤◌, length};
 
-use crate::{Kind, Lexed, Names, lex};
+use pa_lex::{Kind, Lexed, Names, lex};
 use pa_num::Fault;
 use std::alloc::{AllocError, Global};
 use std::fmt::Write;
