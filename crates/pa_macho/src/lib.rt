@@ -6,8 +6,6 @@ mod header;
 mod loader;
 mod places;
 mod reading;
-#[cfg(test)]
-mod tests;
 mod writing;
 
 pub use header::{Header, Role};

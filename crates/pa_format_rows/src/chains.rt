@@ -1,11 +1,6 @@
-ghost use Rattle.std.specs.Prelude.{◌≡◌, length, IfOk};
-
-use super::{erase_slots, put_word, write_chain};
-use crate::bounds::Bounds;
-use crate::chain::read_chain;
-use crate::kind::{Fix, FixKind};
+use crate::bytes::{put, zeros};
+use pa_fixups::{Bounds, Fix, FixKind, erase_slots, read_chain, write_chain};
 use pa_num::{Fault, ImageRule};
-use std::alloc::{AllocError, Global};
 use std::test::Fail;
 
 const BOUNDS: Bounds = Bounds {
@@ -21,12 +16,6 @@ const TARGET: FixKind = FixKind::Rebase {
     target: 0x1_0000_C000,
     high8: 0,
 };
-
-fn zeros(alloc: Global, len: usize) -> Result<Vec<u8>, AllocError>
-    ensures { IfOk result (λ page. length page.items ≡ len) }
-{
-    vec![in alloc; 0; len]
-}
 
 #[test]
 fn links_to_the_last_slot_of_a_page(rt: HostRuntime) -> Result<(), Fail> {
@@ -67,10 +56,7 @@ fn tells_the_first_flaw(rt: HostRuntime) -> Result<(), Fail> {
     ];
     for (first, word, rule, place) in flaws {
         let mut page = zeros(rt.alloc(), 0x4000)?;
-        let at = first as usize;
-        if at + 8 <= page.len() {
-            put_word(&mut page, at, word);
-        }
+        put(&mut page, first as usize, word);
         let read = read_chain(rt.alloc(), &page, first, &BOUNDS);
         let Err(fault) = read else {
             return Err(Fail::from("a flaw"));

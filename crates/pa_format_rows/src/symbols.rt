@@ -1,8 +1,8 @@
 ghost use Rattle.std.specs.Prelude.{◌≡◌, ◌%◌, ◌<◌, ◌^◌, length};
 
-use crate::{SymbolsAt, TextAt, legal_marks, read_symbols, write_symbols};
 use pa_num::{Fault, ImageRule, Memory, Name};
 use pa_object::{Mark, Marks};
+use pa_symbols::{SymbolsAt, TextAt, legal_marks, read_symbols, write_symbols};
 use std::alloc::{AllocError, Global};
 use std::test::Fail;
 

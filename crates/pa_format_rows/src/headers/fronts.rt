@@ -1,7 +1,7 @@
 //! The bytes of two headers up to the end of their load commands, as words with the lowest byte first. Another program spelled
 //! them from mach-o/loader.h, and `llvm-readobj` and `llvm-objdump` read its files.
 
-use crate::{Header, Role};
+use pa_macho::{Header, Role};
 
 /// A program with every part, and two pages of `__DATA`.
 pub(super) const PROGRAM: Header = Header {

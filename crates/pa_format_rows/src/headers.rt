@@ -1,6 +1,6 @@
 mod fronts;
 
-use crate::{FRONT, Header, Role, header_fits, read_header, write_header};
+use pa_macho::{FRONT, Header, Role, header_fits, read_header, write_header};
 use pa_num::{Fault, ImageRule};
 use std::alloc::Global;
 use std::test::Fail;
