@@ -2,7 +2,7 @@ use Rattle.std.proofs.Common.{◌≡◌, ◌≤◌, ◌<◌, ◌+◌, ℕ}
 use Rattle.std.specs.Prelude.{false}
 use Rattle.pa_check.specs.Rows.{may_open}
 use Rattle.pa_check.specs.Text.{text_of, word_at}
-use Rattle.pa_check.proofs.text.settled.Given as goal
+use Rattle.pa_check.proofs.inside.walked_back.Given as goal
 
 abbrev pub invariant-loop-before : goal.invariant-loop-before
 invariant-loop-before l = record {

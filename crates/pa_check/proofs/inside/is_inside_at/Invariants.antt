@@ -1,7 +1,7 @@
-use Rattle.std.proofs.Common.{◌≡◌, ◌≤◌, ◌<◌, ◌+◌, ◌^◌, ℕ, IfSome}
+use Rattle.std.proofs.Common.{◌≤◌, IfSome}
 use Rattle.pa_check.specs.Text.{text_of}
 use Rattle.pa_check.specs.Passing.{IsPassed}
-use Rattle.pa_check.proofs.text.is_inside_at.Given as goal
+use Rattle.pa_check.proofs.inside.is_inside_at.Given as goal
 
 abbrev pub invariant-loop-before : goal.invariant-loop-before
 invariant-loop-before l = record {
