@@ -1,9 +1,8 @@
 ghost use Rattle.std.specs.Prelude.{◌≡◌, ◌≤◌, ◌<◌, HoldsAt, [], ◌∷◌, ◌++◌, ◌&&◌, length, drop, map, slice_get, true, is_ok, position, IfOk, OnOk, OnErr, MatchResult, IfSome, IfNone, Some, None, false};
 ghost use Rattle.byteorder.specs.Endian.{little_number};
 ghost use Rattle.pa_mem.specs.Access.{byte_count};
-ghost use Rattle.pa_mem.specs.Memory.{Read, Write, allowed, offers, inside, bytes_at, with_bytes, load, store, fetch, apart_from_all, all_apart, write_xor_run, region_of};
-ghost use Rattle.pa_mem.specs.Extents.{extent_of, is_exclusive};
-ghost use Rattle.std.specs.List.{list_all};
+ghost use Rattle.pa_mem.specs.Memory.{Read, Write, allowed, offers, inside, bytes_at, with_bytes, load, store, fetch, apart_from_all, all_apart, region_of};
+ghost use Rattle.pa_mem.specs.Extents.{extent_of};
 ghost use Rattle.pa_mem.specs.Place.{IsPlace, IsOffered};
 
 use crate::access::{Abort, Rights, Size};
@@ -97,17 +96,6 @@ impl Space {
         ensures { slice_get (map extent_of self.now) number ≡ Some result }
     {
         self.regions[number].extent()
-    }
-
-    /// Whether no region may be both written and run.
-    #[tactic(auto, using(crate::proofs::Exclusive::xor_tested))]
-    pub fn is_write_xor_run(&self) -> bool
-        ensures value { result ≡ write_xor_run self.now }
-
-        // No address is in two of them.
-        ensures apart { all_apart self.now ≡ true }
-    {
-        are_exclusive(self.regions.as_slice())
     }
 
     /// Whether the `count` bytes from `at` on lie inside one region that has at least these rights. No byte at all lies
@@ -226,12 +214,6 @@ impl Space {
             .iter()
             .position(|region| region.offers(at, count, rights))
     }
-}
-
-fn are_exclusive(regions: &[Mapping]) -> bool
-    ensures { result ≡ list_all is_exclusive regions.now }
-{
-    regions.iter().all(|region| region.is_exclusive())
 }
 
 // Puts these bytes at the front of the buffer.
