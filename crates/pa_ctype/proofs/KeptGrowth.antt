@@ -78,12 +78,6 @@ module _ (n : ℕ) (names : ℕ → List ℕ) (m : ℕ → TypeTree) where
       by_place (inl old) = kept_extends (table_of names m (members_of bodies)) (slice_set (table_of names m (members_of bodies)) id (Some (fields_of names m new.members))) found grown (h other found old)
       by_place (inr same) = kept_extends (table_of names m (members_of bodies)) (slice_set (table_of names m (members_of bodies)) id (Some (fields_of names m new.members))) found grown (subst (IsKeptBody n names m (table_of names m (members_of bodies))) same k)
 
-  -- one more member
-  pub member_push : (table : Table) (members : List Held) (held : Held) → IsSoundBody table (fields_of names m members) → IsComplete table (m held.of) → id_bound (m held.of) ≤ length table → IsSoundBody table (fields_of names m (members ++ held ∷ []))
-  unfolding IsSoundBody
-  member_push table [] held k c n = (record { complete = c; known = n }, tt)
-  member_push table (x ∷ members) held k c n = (k.0, member_push table members held k.1 c n)
-
 -- the layouts that are kept stay
 pub layouts_more : (bodies more : List (Option LaidBody)) → Keeps (kept_layout bodies) (kept_layout (bodies ++ more))
 layouts_more [] more id l e = cc
