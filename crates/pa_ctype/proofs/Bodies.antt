@@ -1,5 +1,5 @@
 -- The members of a struct that gets its body, one more at a time, while the table of types grows.
-use Rattle.std.proofs.Common.{◌≡◌, ℕ, ◌≤◌, true, List, [], ◌∷◌, ◌++◌, Option, length, sym, subst}
+use Rattle.std.proofs.Common.{◌≡◌, ℕ, ◌<◌, ◌≤◌, true, List, [], ◌∷◌, ◌++◌, Option, length, sym, subst, arith}
 use Rattle.std.specs.Option.{IsSome}
 use Rattle.pa_ctype.specs.declared.ctype.Layout.{Layout}
 use Rattle.pa_ctype.specs.declared.ctype.Held.{Held}
@@ -7,7 +7,7 @@ use Rattle.pa_ctype.specs.Types.{TypeTree}
 use Rattle.pa_ctype.specs.Nodes.{Fits}
 use Rattle.pa_ctype.specs.Bounds.{is_formed}
 use Rattle.pa_ctype.specs.Layouts.{Table, layout_in, fields_of, table_of, IsLayoutOf, IsSoundBody}
-use Rattle.pa_ctype.specs.Tables.{TypeTable, ForTypes, ForStructs, IsSoundIn}
+use Rattle.pa_ctype.specs.Tables.{types_bound, names_bound, TypeTable, ForTypes, ForStructs, IsSoundIn}
 use Rattle.pa_ctype.proofs.Forms.{formed_bound}
 use Rattle.pa_ctype.proofs.Results.{complete_is}
 
@@ -35,3 +35,13 @@ sound_push t ms held h k names m fits = push names m (table_of names m t.structs
 -- more types
 pub sound_grown : (old new : TypeTable) → new.structs ≡ old.structs → ForTypes new (λ m. Fits m old.nodes) → (ms : List Held) → IsSoundIn old ms → IsSoundIn new ms
 sound_grown old new e grows ms h names m fits = subst (λ structs. IsSoundBody (table_of names m structs) (fields_of names m ms)) (sym e) (h names m (grows m fits))
+
+-- ---- the numbers of its members
+
+pub types_push : (k : ℕ) (ms : List Held) (held : Held) → types_bound ms ≤ k → held.of < k → types_bound (ms ++ held ∷ []) ≤ k
+types_push k [] held h w = omega (arith, w)
+types_push k (x ∷ ms) held h w = omega (arith, h, types_push k ms held (omega (arith, h)) w)
+
+pub names_push : (k : ℕ) (ms : List Held) (held : Held) → names_bound ms ≤ k → held.name < k → names_bound (ms ++ held ∷ []) ≤ k
+names_push k [] held h w = omega (arith, w)
+names_push k (x ∷ ms) held h w = omega (arith, h, names_push k ms held (omega (arith, h)) w)
