@@ -78,12 +78,6 @@ module _ (n : ℕ) (names : ℕ → List ℕ) (m : ℕ → TypeTree) where
       by_place (inl old) = kept_extends (table_of names m (members_of bodies)) (slice_set (table_of names m (members_of bodies)) id (Some (fields_of names m new.members))) found grown (h other found old)
       by_place (inr same) = kept_extends (table_of names m (members_of bodies)) (slice_set (table_of names m (members_of bodies)) id (Some (fields_of names m new.members))) found grown (subst (IsKeptBody n names m (table_of names m (members_of bodies))) same k)
 
-  -- one more member
-  pub member_push : (table : Table) (members : List Held) (held : Held) → IsSoundBody table (fields_of names m members) → IsComplete table (m held.of) → id_bound (m held.of) ≤ length table → IsSoundBody table (fields_of names m (members ++ held ∷ []))
-  unfolding IsSoundBody
-  member_push table [] held k c n = (record { complete = c; known = n }, tt)
-  member_push table (x ∷ members) held k c n = (k.0, member_push table members held k.1 c n)
-
 -- the layouts that are kept stay
 pub layouts_more : (bodies more : List (Option LaidBody)) → Keeps (kept_layout bodies) (kept_layout (bodies ++ more))
 layouts_more [] more id l e = cc
@@ -124,3 +118,21 @@ types_set ns fs bodies n id new at a types nameds k =
           (layout_by_keeps (kept_layout bodies) (kept_layout (slice_set bodies id (Some new))) (layouts_set bodies id new at)) _ (a.formed i h);
       kept = λ names m fits. kept_set n names m bodies id new at (a.kept names m fits) (k names m fits);
     }
+
+-- one more struct with a body
+set_last : (bodies : List (Option LaidBody)) (new : LaidBody) → slice_set (bodies ++ None ∷ []) (length bodies) (Some new) ≡ bodies ++ Some new ∷ []
+set_last [] new = refl
+set_last (x ∷ bodies) new = ap (λ l. x ∷ l) (set_last bodies new)
+
+open_last : (bodies : List (Option LaidBody)) → slice_get (members_of (bodies ++ None ∷ [])) (length bodies) ≡ Some None
+open_last [] = refl
+open_last (x ∷ bodies) = open_last bodies
+
+pub types_add : (ns : List Node) (fs : List Facts) (bodies : List (Option LaidBody)) (n : ℕ) (new : LaidBody) → AreTypes ns fs bodies n → types_bound new.members ≤ length ns → names_bound new.members ≤ n
+    → ((names : ℕ → List ℕ) (m : ℕ → TypeTree) → Fits m ns → IsKeptBody n names m (table_of names m (members_of bodies)) new) → AreTypes ns fs (bodies ++ Some new ∷ []) n
+types_add ns fs bodies n new a types named k =
+    subst (λ bodies. AreTypes ns fs bodies n) (set_last bodies new)
+    (types_set ns fs (bodies ++ None ∷ []) n (length bodies) new (open_last bodies) (types_push ns fs bodies n a) types named
+    (λ names m fits.
+    subst (λ table. IsKeptBody n names m table new) (table_push n names m bodies)
+    (kept_extends n names m (table_of names m (members_of bodies)) (table_of names m (members_of bodies) ++ None ∷ []) new (extends_more (table_of names m (members_of bodies)) (None ∷ [])) (k names m fits))))

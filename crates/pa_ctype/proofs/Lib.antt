@@ -1,16 +1,17 @@
 mod Answering
+pub mod Bodies
 mod Cells
 mod Constants
 mod Depth
 mod Examples
 mod Extents
 mod Finding
-mod Forms
+pub mod Forms
 pub mod Functions
 mod Growth
 mod Joining
 mod Keeping
-pub mod KeptGrowth
+mod KeptGrowth
 mod KindLaws
 pub mod Laws
 pub mod Laying

@@ -19,6 +19,11 @@ layout_answer table t = by_layout (layout_in table t) refl
     by_layout None e = λ l h. let z : None ≡ Some l = sym e ∙ layout_is table t l h in cc
     by_layout (Some l) e = (layout_has table t l e, λ other h. one_layout table t other l h (layout_has table t l e))
 
+-- a type that has a layout is complete
+pub complete_is : (table : Table) (t : TypeTree) (r : Option Layout) → IsLayoutOf table t r → IsSome r → IsComplete table t
+complete_is table t None a s = cc
+complete_is table t (Some l) a s = (l, a.0)
+
 -- the layout of an array is that of its elements side by side
 pub array_laid : (depth : ℕ) (table : Table) (t : TypeTree) (count : ℕ) → laid depth table (array_of t count) ≡ option_and_then (times count) (laid depth table t)
 unfolding laid layout_by form_layout_by
@@ -78,8 +83,7 @@ laid_ends table id (field ∷ body) h e =
 
 -- a struct is laid where its type is complete
 pub struct_is_laid : (table : Table) (t : TypeTree) (id : ℕ) (r : Option Layout) → t ≡ Of false (Struct id) → IsLayoutOf table t r → IsSome r → IsLaidStruct table id
-struct_is_laid table t id None e a s = cc
-struct_is_laid table t id (Some l) e a s = λ body b. (l, subst (λ x. HasLayout table x l) e a.0)
+struct_is_laid table t id r e a s = λ body b. subst (IsComplete table) e (complete_is table t r a s)
 
 -- so do the members of a struct that has a layout
 pub struct_ends : (lay : TypeTree → Option Layout) (body : Body) (l : Layout) → struct_layout lay body ≡ Some l → EndsWithin lay empty body

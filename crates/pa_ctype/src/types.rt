@@ -262,6 +262,22 @@ impl Types {
         Ok(())
     }
 
+    /// One more struct, with this body: its id. After want of memory there is none more.
+    pub fn declare_with(&mut self, alloc: Global, members: Members) -> Result<u32, Memory>
+        requires count { length self.old.structs < 2 ^ 32 }
+        requires types { types_bound members ≤ length self.old.nodes }
+        requires names { names_bound members ≤ self.old.names }
+        requires sound { IsSoundIn self.old members }
+        ensures id { IfOk result (λ id. id ≡ length self.old.structs) }
+        ensures ok { OnOk result (self.new ≡ record self.old { structs = self.old.structs ++ Some members ∷ [] }) }
+        ensures err { OnErr result (self.new ≡ self.old) }
+    {
+        let id = self.bodies.len() as u32;
+        let body = laid_body(alloc, &self.nodes, self.bodies.as_slice(), members)?;
+        self.bodies.push(Some(body))?;
+        Ok(id)
+    }
+
     /// How many bytes an object of a type has, and of which number its address is a multiple (C11 6.2.8). None: the type isn't
     /// complete (C11 6.2.5p1), an integer in it has another width than 8, 16, 32 or 64 bits, an array in it has no element, a
     /// struct in it has no member, or it or an array or struct in it has more than 4,294,967,295 bytes. Types behind a pointer,
