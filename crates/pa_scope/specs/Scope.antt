@@ -5,8 +5,9 @@ use Rattle.std.specs.Str.{bytes_eq}
 use Rattle.pa_ctype.specs.Types.{TypeTree, Of, Array}
 use Rattle.pa_ctype.specs.Equality.{same_type}
 use Rattle.pa_ctype.specs.Layouts.{Body, Table, body_of}
-use Rattle.pa_rexpr.specs.declared.rule.TypeRule.TheVariants.{C2, C26}
-use Rattle.pa_rexpr.specs.Answers.{Answer, breaks_at}
+use Rattle.pa_blocks.specs.Blocks.{or_else}
+use Rattle.pa_scope.specs.declared.rule.TypeRule.TheVariants.{C2, C26}
+use Rattle.pa_scope.specs.Answers.{Answer, breaks_at}
 
 -- how the names of the file that trees hold as numbers are spelled
 abbrev pub Spelling : Type 0
@@ -30,7 +31,7 @@ pub record StructTag : Type 0 where
   pub name : List ℕ
   pub id : ℕ
 
--- The innermost block comes first, the file last; there is always the file.
+-- The innermost block comes first, the file last; there is always the file. Tags stand in the order in which they came.
 pub record Scope : Type 0 where
   pub block : List Declaration
   pub around : List (List Declaration)
@@ -63,10 +64,6 @@ is_file_level s = length s.around == 0
 unfoldable pub in_block : List Declaration → List ℕ → Option Meaning
 in_block [] name = None
 in_block (d ∷ ds) name = if bytes_eq d.name name then Some d.means else in_block ds name
-
-abbrev pub or_else : Option Meaning → Option Meaning → Option Meaning
-or_else None other = other
-or_else (Some m) other = Some m
 
 unfoldable pub in_blocks : List (List Declaration) → List ℕ → Option Meaning
 in_blocks [] name = None
@@ -144,7 +141,7 @@ pub record Found : Type 0 where
 abbrev pub found_or_new : Option ℕ → List ℕ → Scope → Found
 found_or_new (Some id) tag s = record { id = id; scope = s }
 found_or_new None tag s =
-    record { id = length s.structs; scope = record s { struct_tags = record { name = tag; id = length s.structs } ∷ s.struct_tags; structs = s.structs ++ (None ∷ []) } }
+    record { id = length s.structs; scope = record s { struct_tags = s.struct_tags ++ record { name = tag; id = length s.structs } ∷ []; structs = s.structs ++ (None ∷ []) } }
 
 -- the struct of a tag, a new one without a body where there is none
 abbrev pub tagged : List ℕ → Scope → Found
@@ -179,4 +176,4 @@ has_enum_tag s tag = has_name s.enum_tags tag
 
 -- a tag of an enumeration, whose place this is, stands once
 abbrev pub with_enum_tag : List ℕ → ℕ → Scope → Answer Scope
-with_enum_tag tag place s = if has_enum_tag s tag then breaks_at C2 place else Ok (record s { enum_tags = tag ∷ s.enum_tags })
+with_enum_tag tag place s = if has_enum_tag s tag then breaks_at C2 place else Ok (record s { enum_tags = s.enum_tags ++ tag ∷ [] })

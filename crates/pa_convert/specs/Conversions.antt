@@ -2,10 +2,11 @@
 -- integer types here; enumerated types are `int`.
 use Rattle.std.specs.Prelude.{ℕ, Bool, true, false, not, ◌&&◌, ◌||◌, ◌==◌, nat_lt, if◌then◌else◌, Option, Some, None, is_some}
 use Rattle.pa_pac.specs.declared.schema.Schema.{Schema}
-use Rattle.pa_ctype.specs.Types.{TypeTree, Of, FormTree, Void, Boolean, Integer, Pointer, Array, Struct, Function, TypeTrees, Nil, Cons, type_depth}
-use Rattle.pa_ctype.specs.Equality.{same_form}
+use Rattle.pa_ctype.specs.Types.{TypeTree, Of, Void, Boolean, Integer, Pointer, Array, Struct, Function, type_depth}
+use Rattle.pa_ctype.specs.Equality.{same_but_const}
 use Rattle.pa_ctype.specs.Qualifiers.{is_constant, with_const}
 use Rattle.pa_ctype.specs.Layouts.{Table, layout_in}
+use Rattle.pa_ctype.specs.Bounds.{fits}
 
 abbrev pub integer : ℕ → Bool → TypeTree
 integer bits signed = Of false (Integer bits signed)
@@ -115,13 +116,10 @@ common a b = common_by (promoted a) (promoted b)
 
 -- ---- pointers (6.3.2.3, 6.5.9, 6.5.15, 6.5.16.1)
 
-abbrev pub same_target : TypeTree → TypeTree → Bool
-same_target (Of c form) (Of d other) = same_form form other
-
 -- types of what two pointers point to that go together, `const` aside: they are the same, or one is void and the other is no
 -- function
 abbrev pub go_together : TypeTree → TypeTree → Bool
-go_together a b = same_target a b || ((is_void a && not (is_function b)) || (is_void b && not (is_function a)))
+go_together a b = same_but_const a b || ((is_void a && not (is_function b)) || (is_void b && not (is_function a)))
 
 -- a pointer to the second may be given to one to the first: `const` may be added
 abbrev pub takes_target : TypeTree → TypeTree → Bool
@@ -157,28 +155,6 @@ abbrev pub adjusted : TypeTree → TypeTree
 adjusted (Of c (Array of count)) = pointer_to of
 adjusted (Of c (Function params result)) = pointer_to (Of c (Function params result))
 adjusted t = t
-
--- no array with a length in the type, behind a pointer or in a function's type too, is without a layout
-abbrev pub array_fits : Table → TypeTree → Option ℕ → Bool
-array_fits table of None = true
-array_fits table of (Some count) = is_complete table (Of false (Array of (Some count)))
-
-unfoldable mutual
-  pub fits : Table → TypeTree → Bool
-  fits table (Of c form) = form_fits table form
-
-  pub form_fits : Table → FormTree → Bool
-  form_fits table Void = true
-  form_fits table Boolean = true
-  form_fits table (Integer bits signed) = true
-  form_fits table (Pointer to schema) = fits table to
-  form_fits table (Array of count) = array_fits table of count && fits table of
-  form_fits table (Struct id) = true
-  form_fits table (Function params result) = types_fit table params && fits table result
-
-  pub types_fit : Table → TypeTrees → Bool
-  types_fit table Nil = true
-  types_fit table (Cons first rest) = fits table first && types_fit table rest
 
 -- the most pointers, arrays and functions on a way down in a type
 abbrev pub most_levels : ℕ
