@@ -1,12 +1,8 @@
 -- What the calls of a table answer about structs, from what it keeps.
-use Rattle.std.proofs.Common.{◌≡◌, ℕ, ◌+◌, ◌<◌, ◌≤◌, Bool, true, false, cond, ◌==◌, List, [], ◌∷◌, length, Option, Some, None, option_map, IfSome, nat_eq, refl, sym, ap, ◌∙◌, subst, arith}
+use Rattle.std.proofs.Common.{◌≡◌, ℕ, ◌<◌, ◌≤◌, true, false, List, [], length, Option, Some, None, option_map, IfSome, nat_eq, refl, sym, ap, ◌∙◌, subst, arith}
 use Rattle.std.specs.Option.{option_and_then}
-use Rattle.std.specs.Int.{next_multiple_of}
-use Rattle.std.specs.Str.{bytes_eq}
 use Rattle.std.specs.List.{slice_get}
 use Rattle.std.proofs.lemmas.List.{length-map}
-use Rattle.std.proofs.lemmas.Bool.{eqb-true, eq-eqb}
-use Rattle.std.proofs.lemmas.Slice.Eq.{bytes_eq-Decides}
 use Rattle.indexmap.specs.IndexMap.{get}
 use Rattle.pa_ctype.specs.declared.ctype.Layout.{Layout}
 use Rattle.pa_ctype.specs.declared.ctype.Held.{Held}
@@ -18,10 +14,10 @@ use Rattle.pa_ctype.specs.Types.{TypeTree, Of, Struct, array_of}
 use Rattle.pa_ctype.specs.Nodes.{at, tree, Below, Fits}
 use Rattle.pa_ctype.specs.declared.node.Node.TheVariants as variant
 use Rattle.pa_ctype.specs.Bounds.{is_formed, is_formed_by, IsStructOf, HoldsComplete}
-use Rattle.pa_ctype.specs.Tables.{TypeTable, AreApart, ForStructs, ForNamed, types_bound, names_bound}
+use Rattle.pa_ctype.specs.Tables.{TypeTable, ForStructs, ForNamed, types_bound, names_bound}
 use Rattle.pa_ctype.specs.Kept.{members_of, kept_body, kept_layout, AreFine, AreTypes, IsKeptBody, unnamed, lay, place_from}
-use Rattle.pa_ctype.specs.Layouts.{Body, Table, body_of, placed, empty, padded, members_from, struct_layout, layout_by, form_layout_by, laid, layout_in, member_from, member_of, fields_of, table_of, IsComplete, IsLayoutOf, IsMemberOf, IsLaidStruct, IsSound, IsSoundBody}
-use Rattle.pa_ctype.proofs.Laws.{then_same, structs_at, struct_layout_same}
+use Rattle.pa_ctype.specs.Layouts.{Body, Table, body_of, placed, empty, struct_layout, layout_by, form_layout_by, laid, layout_in, member_from, member_of, fields_of, table_of, IsComplete, IsLayoutOf, IsMemberOf, IsLaidStruct, IsSound, IsSoundBody}
+use Rattle.pa_ctype.proofs.Laws.{structs_at}
 use Rattle.pa_ctype.proofs.Depth.{laid_end, layout_is}
 use Rattle.pa_ctype.proofs.Laying.{entry_some, kept_fine, layout_kept, kept_sound, members_at, table_body}
 use Rattle.pa_ctype.proofs.Results.{layout_answer, member_answer}

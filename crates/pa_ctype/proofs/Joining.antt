@@ -1,9 +1,7 @@
 -- The types and structs of a file behind those of a table.
-use Rattle.std.proofs.Common.{take, IfSome, ◌≡◌, ℕ, zero, suc, ◌+◌, ◌-◌, ◌^◌, ◌<◌, ◌≤◌, Bool, true, false, ◌&&◌, List, [], ◌∷◌, ◌++◌, length, map, get_or, Option, Some, None, option_map, refl, sym, ap, ◌∙◌, subst, arith, below_more, ◌⊎◌, inl, inr}
-use Rattle.std.specs.Prelude.{is_some}
+use Rattle.std.proofs.Common.{take, IfSome, ◌≡◌, ℕ, zero, suc, ◌+◌, ◌<◌, ◌≤◌, true, false, List, [], ◌∷◌, ◌++◌, length, map, get_or, Option, Some, None, option_map, refl, sym, ap, ◌∙◌, subst, arith, below_more, ◌⊎◌, inl, inr}
 use Rattle.std.specs.List.{slice_get}
 use Rattle.std.proofs.lemmas.Option.{same_Some}
-use Rattle.std.proofs.lemmas.Bool.{and_from}
 use Rattle.std.proofs.lemmas.List.{length-map, length-append, map-append, get_or_append_left, take_more}
 use Rattle.std.proofs.Math.Seq.{get_or-append_seam}
 use Rattle.pa_ctype.specs.declared.ctype.Layout.{Layout}
@@ -14,8 +12,8 @@ use Rattle.pa_ctype.specs.declared.node.Facts.{Facts}
 use Rattle.pa_ctype.specs.declared.structs.LaidBody.{LaidBody}
 use Rattle.pa_ctype.specs.Types.{TypeTree, Of, FormTree, TypeTrees, Nil, Cons, id_bound, form_id_bound}
 use Rattle.pa_ctype.specs.Types as ty
-use Rattle.pa_ctype.specs.Nodes.{schema_of, taking, constant, tree, is_function, takes_const, at, AllBelow, Below, Fits, Grown, Each, IsProper, IsTable}
-use Rattle.pa_ctype.specs.Bounds.{elements_layout, fits_by, form_fits, types_fit, is_formed_by, IsStructOf}
+use Rattle.pa_ctype.specs.Nodes.{schema_of, taking, constant, tree, is_function, takes_const, at, AllBelow, Below, Fits, Grown, IsProper, IsTable}
+use Rattle.pa_ctype.specs.Bounds.{fits_by, form_fits, types_fit, is_formed_by, IsStructOf}
 use Rattle.pa_ctype.specs.Layouts.{Table, layout_by, layout_in, fields_of, table_of, IsSoundBody}
 use Rattle.pa_ctype.specs.Tables.{types_bound, names_bound}
 use Rattle.pa_ctype.specs.Raised.{raised, raised_form, raised_types, raised_body, raised_table, followed}

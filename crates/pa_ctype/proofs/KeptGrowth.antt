@@ -6,13 +6,12 @@ use Rattle.pa_ctype.specs.declared.ctype.Held.{Held}
 use Rattle.pa_ctype.specs.declared.node.Node.{Node}
 use Rattle.pa_ctype.specs.declared.node.Facts.{Facts}
 use Rattle.pa_ctype.specs.declared.structs.LaidBody.{LaidBody}
-use Rattle.pa_ctype.specs.Types.{TypeTree, id_bound}
+use Rattle.pa_ctype.specs.Types.{TypeTree}
 use Rattle.pa_ctype.specs.Nodes.{Fits, Grown, Each, IsTable}
 use Rattle.pa_ctype.specs.Tables.{types_bound, names_bound}
 use Rattle.pa_ctype.specs.Kept.{members_of, kept_layout, IsKeptBody, IsKept, AreTypes}
 use Rattle.pa_ctype.specs.Bounds.{is_formed_by}
-use Rattle.pa_ctype.specs.declared.ctype.Layout.{Layout}
-use Rattle.pa_ctype.specs.Layouts.{Table, empty, layout_by, fields_of, table_of, IsComplete, IsSoundBody}
+use Rattle.pa_ctype.specs.Layouts.{Table, empty, layout_by, fields_of, table_of}
 use Rattle.pa_ctype.proofs.NodeTable.{fits_grown}
 use Rattle.pa_ctype.proofs.Forms.{formed_more}
 use Rattle.pa_ctype.proofs.Laws.{Keeps, layout_by_keeps}

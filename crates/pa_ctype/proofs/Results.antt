@@ -8,7 +8,7 @@ use Rattle.pa_ctype.specs.declared.ctype.Layout.{Layout}
 use Rattle.pa_ctype.specs.declared.ctype.Member.{Member}
 use Rattle.pa_ctype.specs.Types.{TypeTree, Of, Struct, array_of}
 use Rattle.pa_ctype.specs.Kept.{EndsWithin}
-use Rattle.pa_ctype.specs.Layouts.{Body, Table, body_of, times, placed, empty, padded, members_from, struct_layout, layout_by, form_layout_by, laid, HasLayout, layout_in, IsComplete, IsLayoutOf, member_from, HasMember, member_of, IsMemberOf, IsLaidStruct, IsSoundBody, IsSound, most_bytes}
+use Rattle.pa_ctype.specs.Layouts.{Body, Table, body_of, times, placed, empty, padded, members_from, struct_layout, layout_by, form_layout_by, laid, layout_in, IsComplete, IsLayoutOf, member_from, HasMember, member_of, IsMemberOf, IsLaidStruct, IsSoundBody, IsSound, most_bytes}
 use Rattle.pa_ctype.proofs.Laws.{then_some, structs_at, one_layout, small_is}
 use Rattle.pa_ctype.proofs.Depth.{layout_is, layout_has, laid_end, one_member}
 

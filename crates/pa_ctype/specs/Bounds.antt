@@ -1,6 +1,6 @@
 -- What holds of each type that a table has: it names structs of the table only, and what an array holds is a complete object type
 -- (C11 6.2.5p1, 6.7.6.2p1). So no array with a length is without a layout, behind a pointer or in a function's type neither.
-use Rattle.std.specs.Prelude.{◌≡◌, ℕ, ◌<◌, nat_le, Bool, true, ◌&&◌, is_some, IsTrue, List, length, Option, Some, None, option_map}
+use Rattle.std.specs.Prelude.{ℕ, ◌<◌, nat_le, Bool, true, ◌&&◌, is_some, length, Option, Some, None}
 use Rattle.std.specs.Option.{option_and_then}
 use Rattle.pa_ctype.specs.declared.ctype.Layout.{Layout}
 use Rattle.pa_ctype.specs.declared.node.Node.{Node}
