@@ -1,6 +1,6 @@
 -- How many words code has at most.
-use Rattle.std.proofs.Common.{◌≡◌, ℕ, zero, suc, ◌+◌, ◌*◌, ◌≤◌, ◌<◌, Bool, true, false, cond, eqb, ltb, List, [], ◌∷◌, ◌++◌, length, take, Option, Some, None, refl, arith}
-use Rattle.std.specs.Prelude.{ℤ, pos, not}
+use Rattle.std.proofs.Common.{◌≡◌, ℕ, suc, ◌+◌, ◌*◌, ◌≤◌, Bool, true, false, cond, eqb, ltb, List, [], ◌∷◌, ◌++◌, length, take, Option, Some, None, refl, arith}
+use Rattle.std.specs.Prelude.{pos, not}
 use Rattle.std.specs.List.{sum_by, filter}
 use Rattle.std.proofs.lemmas.List.{length-append, length-take}
 use Rattle.std.proofs.lemmas.List.Sums.{sum_by-cons}
@@ -22,10 +22,10 @@ use Rattle.pa_a64.specs.declared.instr.BranchOp.TheVariants.{Bl}
 use Rattle.pa_a64.specs.declared.instr.LoadStorePairOp.TheVariants.{Stp}
 use Rattle.pa_a64.specs.declared.instr.StackOp.TheVariants.{Retab}
 use Rattle.pa_select.specs.Registers.{x0, x9, x10, x29, x30, sp}
-use Rattle.pa_select.specs.Accesses.{access, load, store, moved_by, address}
+use Rattle.pa_select.specs.Accesses.{access, store, moved_by, address}
 use Rattle.pa_select.specs.Constants.{part, left_by, others, more_moves, moves, is_inverted, constant}
 use Rattle.pa_select.specs.Computing.{binary, store_sized}
-use Rattle.pa_select.specs.Selected.{load_temp, store_temp, store_parameter, store_parameters, prologue, epilogue, load_arguments, load_result, store_result, computed, operands, code_of, words_of, count_of_words}
+use Rattle.pa_select.specs.Selected.{load_temp, store_temp, store_parameter, store_parameters, prologue, epilogue, load_arguments, load_result, store_result, computed, operands, words_of, count_of_words}
 use Rattle.pa_select.specs.Selectable.{IsInRange, IsSelectable, IsSelectableOp}
 use Rattle.pa_select.proofs.Lengths.{last_of_branch}
 use Rattle.pa_select.proofs.Selectable.{all_selectable}

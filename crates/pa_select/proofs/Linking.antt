@@ -1,17 +1,17 @@
 -- The objects of a ready program can be linked.
-use Rattle.std.proofs.Common.{◌≡◌, ◌≢◌, ℕ, zero, suc, ◌+◌, ◌-◌, ◌*◌, ◌≤◌, ◌<◌, Bool, true, false, List, [], ◌∷◌, ◌++◌, length, map, Option, Some, None, get_or, refl, sym, ap, subst, ◌∙◌, arith, codes}
-use Rattle.std.specs.Prelude.{All, Contains, IsTrue, nat_eq, pos, negsuc, ℤ, unwrap_or}
-use Rattle.std.specs.List.{AllByRecursion, IsDistinct, flat_map, list_any, slice_get, sum_by}
+use Rattle.std.proofs.Common.{◌≡◌, ◌≢◌, ℕ, zero, suc, ◌+◌, ◌-◌, ◌*◌, ◌≤◌, ◌<◌, false, List, [], ◌∷◌, ◌++◌, length, map, Option, Some, get_or, refl, sym, ap, subst, ◌∙◌, arith, codes}
+use Rattle.std.specs.Prelude.{All, Contains, nat_eq, pos, negsuc, ℤ, unwrap_or}
+use Rattle.std.specs.List.{AllByRecursion, IsDistinct, list_any, slice_get, sum_by}
 use Rattle.std.specs.Str.{bytes_eq}
 use Rattle.std.proofs.lemmas.Bool.{ne_eqb}
 use Rattle.std.proofs.lemmas.List.{append_assoc, append-nil, length-append, map-append, length-map}
-use Rattle.std.proofs.lemmas.List.Elements.{All-append, All-from_recursion, recursion_from_All}
-use Rattle.std.proofs.lemmas.List.Sums.{sum_by-cons, sum_by-append}
+use Rattle.std.proofs.lemmas.List.Elements.{All-from_recursion, recursion_from_All}
+use Rattle.std.proofs.lemmas.List.Sums.{sum_by-cons}
 use Rattle.std.proofs.lemmas.Map.Keys.{IsDistinct-cons, IsDistinct-head, IsDistinct-tail}
 use Rattle.pa_a64.specs.declared.instr.Instr.{Instr}
 use Rattle.pa_a64.specs.declared.instr.Instr.TheVariants.{Branch}
 use Rattle.pa_a64.specs.declared.instr.BranchOp.TheVariants.{Bl}
-use Rattle.pa_a64.specs.Decoding.{InRange, decoded, encoded}
+use Rattle.pa_a64.specs.Decoding.{decoded, encoded}
 use Rattle.pa_a64.proofs.RoundTrip.{decoded-encoded}
 use Rattle.pa_object.specs.declared.object.Object.{Object}
 use Rattle.pa_object.specs.declared.object.Mark.{Mark}
@@ -31,7 +31,7 @@ use Rattle.pa_lir.specs.Parts.{costs}
 use Rattle.pa_lir.specs.Ready as ready
 use Rattle.pa_lir.specs.Ready.{symbol, symbol_global, function_names, global_names, IsReadyOp, Ready}
 use Rattle.pa_select.specs.Registers.{x0}
-use Rattle.pa_select.specs.Selected.{prologue, load_arguments, store_result, words_of, placed_code, body, function_code, count_of_words}
+use Rattle.pa_select.specs.Selected.{prologue, load_arguments, store_result, words_of, placed_code, body, function_code}
 use Rattle.pa_select.specs.Objects.{refs_of, refs_from, function_refs, mark_of, object_of, data_of, objects_of}
 use Rattle.pa_select.specs.Selectable.{IsSelectable, Selectable}
 use Rattle.pa_select.proofs.Lengths.{length-code_of, length-function_code}

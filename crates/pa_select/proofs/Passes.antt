@@ -1,9 +1,7 @@
 -- The two passes over a function's operations.
-use Rattle.std.proofs.Common.{◌≡◌, ℕ, suc, ◌+◌, ◌-◌, ◌≤◌, ◌<◌, ◌^◌, Bool, true, false, cond, List, [], ◌∷◌, ◌++◌, length, take, drop, get_or, Option, Some, None, refl, sym, ap, subst, ◌∙◌, arith}
+use Rattle.std.proofs.Common.{◌≡◌, ℕ, suc, ◌+◌, ◌-◌, ◌≤◌, ◌<◌, ◌^◌, Bool, true, false, cond, List, [], ◌∷◌, ◌++◌, length, take, drop, get_or, Option, Some, None, refl, sym, ap, ◌∙◌, arith}
 use Rattle.std.specs.Prelude.{option_and_then, IfSome}
-use Rattle.std.specs.List.{sum_by}
 use Rattle.std.proofs.lemmas.List.{length-append, append_assoc, take_all}
-use Rattle.std.proofs.lemmas.List.Sums.{sum_by-cons}
 use Rattle.pa_a64.specs.declared.instr.Instr.{Instr}
 use Rattle.pa_object.specs.declared.object.Ref.{Ref}
 use Rattle.pa_lir.specs.declared.op.Op.{Op}
@@ -11,8 +9,8 @@ use Rattle.pa_lir.specs.declared.function.LirFn.{LirFn}
 use Rattle.pa_lir.specs.Flow.{is_label}
 use Rattle.pa_lir.specs.Placing.{Places, kept, or_else, noted}
 use Rattle.pa_lir.specs.Ready.{most_words}
-use Rattle.pa_select.specs.Selected.{prologue, words_of, words_to, label_from, label_at, label_of, target_of, code_to, placed_code, body, function_code, count_of_words}
-use Rattle.pa_select.specs.Objects.{refs_of, refs_from, function_refs, target_in}
+use Rattle.pa_select.specs.Selected.{words_of, words_to, label_from, label_at, label_of, target_of, code_to, body, count_of_words}
+use Rattle.pa_select.specs.Objects.{refs_of, refs_from, target_in}
 use Rattle.pa_select.specs.Selectable.{IsSelectable}
 use Rattle.pa_select.proofs.Lengths.{length-code_of}
 use Rattle.pa_select.proofs.Ranges.{target_near}

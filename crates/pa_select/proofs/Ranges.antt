@@ -1,13 +1,13 @@
 -- Each instruction of a function's code fits its word.
-use Rattle.std.proofs.Common.{◌≡◌, ℕ, zero, suc, ◌+◌, ◌-◌, ◌*◌, ◌/◌, ◌%◌, ◌^◌, ◌≤◌, ◌<◌, ◌⊎◌, inl, inr, Bool, true, false, cond, eqb, ltb, leb, List, [], ◌∷◌, ◌++◌, length, take, drop, Option, Some, None, refl, sym, ap, subst, ◌∙◌, arith}
-use Rattle.std.specs.Prelude.{ℤ, pos, negsuc, max, not, IsTrue, option_and_then}
+use Rattle.std.proofs.Common.{◌≡◌, ℕ, suc, ◌+◌, ◌-◌, ◌^◌, ◌≤◌, ◌<◌, ◌⊎◌, inl, inr, Bool, true, false, cond, eqb, List, [], ◌∷◌, ◌++◌, length, take, Option, Some, None, refl, arith}
+use Rattle.std.specs.Prelude.{ℤ, not, option_and_then}
 use Rattle.std.specs.Option.{option_to_list}
 use Rattle.std.specs.List.{AllByRecursion, sum_by, filter}
 use Rattle.std.proofs.lemmas.Bool.{cases_lt, lt-ltb, le-ltb, le-leb, lt-leb}
 use Rattle.std.proofs.lemmas.List.Sums.{sum_by-cons, sum_by-take-le}
 use Rattle.std.proofs.lemmas.List.{length-take}
 use Rattle.pa_a64.specs.declared.instr.Instr.{Instr}
-use Rattle.pa_a64.specs.declared.instr.Instr.TheVariants.{Branch, CompareBranch, LoadStore, LoadStoreWord, LoadStoreHalf, LoadStoreByte}
+use Rattle.pa_a64.specs.declared.instr.Instr.TheVariants.{LoadStore, LoadStoreWord, LoadStoreHalf, LoadStoreByte}
 use Rattle.pa_a64.specs.declared.instr.SumImmediateOp.{SumImmediateOp}
 use Rattle.pa_a64.specs.declared.instr.SumImmediateOp.TheVariants as immediate
 use Rattle.pa_a64.specs.declared.instr.LoadStoreOp.{LoadStoreOp}
@@ -30,11 +30,11 @@ use Rattle.pa_lir.specs.Ready.{HasFrame, most_words}
 use Rattle.pa_frame.specs.Frames.{place_of_temp, place_of_local, size_of_frame}
 use Rattle.pa_frame.proofs.Taken.{temp_bytes_most}
 use Rattle.pa_select.specs.Registers.{x0, x9, x10, sp}
-use Rattle.pa_select.specs.Accesses.{access, load, store, moved_by, address}
+use Rattle.pa_select.specs.Accesses.{access, store, moved_by, address}
 use Rattle.pa_select.specs.Constants.{part, left_by, others, first_move, more_moves, moves, is_inverted, constant}
-use Rattle.pa_select.specs.Computing.{comparison, binary, unary, extension, extended, load_sized, store_sized}
-use Rattle.pa_select.specs.Selected.{load_temp, store_temp, store_parameter, store_parameters, prologue, epilogue, load_arguments, load_result, store_result, branch, computed, operands, called, code_of, words_of, words_to, label_at, label_of, target_of, code_to, placed_code, body, function_code, count_of_words}
-use Rattle.pa_select.specs.Selectable.{IsDirect, IsInRange, IsSelectableOp, IsSelectable}
+use Rattle.pa_select.specs.Computing.{comparison, binary, unary, extended, load_sized, store_sized}
+use Rattle.pa_select.specs.Selected.{load_temp, store_temp, store_parameter, store_parameters, prologue, epilogue, load_arguments, load_result, store_result, computed, operands, called, code_of, words_of, words_to, label_at, label_of, target_of, placed_code, body, function_code, count_of_words}
+use Rattle.pa_select.specs.Selectable.{IsSelectableOp, IsSelectable}
 use Rattle.pa_select.proofs.Lengths.{label_within}
 use Rattle.pa_select.proofs.Selectable.{all_selectable}
 

@@ -1,13 +1,12 @@
 -- Each operation of a well-formed function is selectable.
-use Rattle.std.proofs.Common.{◌≡◌, ℕ, zero, suc, ◌+◌, ◌≤◌, ◌<◌, List, [], ◌∷◌, length, Some, refl, sym, arith}
-use Rattle.std.specs.Prelude.{All}
+use Rattle.std.proofs.Common.{◌≡◌, ℕ, suc, ◌+◌, ◌≤◌, List, [], ◌∷◌, length, Some, refl, sym, arith}
 use Rattle.std.specs.List.{slice_get, AllByRecursion}
 use Rattle.std.proofs.lemmas.List.Elements.{recursion_from_All}
 use Rattle.pa_lir.specs.declared.op.Op.{Op}
 use Rattle.pa_lir.specs.declared.op.Op.TheVariants as op
 use Rattle.pa_lir.specs.declared.function.LirFn.{LirFn}
 use Rattle.pa_lir.specs.Parts.{above_op, above_all, held}
-use Rattle.pa_lir.specs.WellFormed.{IsSoundAt, IsSound}
+use Rattle.pa_lir.specs.WellFormed.{IsSoundAt}
 use Rattle.pa_select.specs.Selectable.{IsDirect, IsInRange, IsSelectableOp, IsSelectable}
 
 in_range : (f : LirFn) (at : ℕ) (o : Op) → IsSoundAt f.ops (length f.locals) at o → IsInRange f o

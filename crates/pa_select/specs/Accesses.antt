@@ -1,6 +1,6 @@
 -- Reaching what lies in a stack frame, by its distance in bytes from the stack pointer (Arm Architecture Reference Manual: LDR,
 -- STR and ADD with immediates of 12 bits).
-use Rattle.std.specs.Prelude.{ℕ, ◌+◌, ◌*◌, ◌/◌, ◌%◌, Bool, true, false, nat_lt, if◌then◌else◌, List, [], ◌∷◌}
+use Rattle.std.specs.Prelude.{ℕ, ◌/◌, ◌%◌, true, false, nat_lt, if◌then◌else◌, List, [], ◌∷◌}
 use Rattle.pa_a64.specs.declared.instr.Instr.{Instr}
 use Rattle.pa_a64.specs.declared.instr.Instr.TheVariants.{SumImmediate, LoadStore}
 use Rattle.pa_a64.specs.declared.instr.SumImmediateOp.{SumImmediateOp}

@@ -1,6 +1,5 @@
 -- The objects of a program: one of each function, and one of the globals.
-use Rattle.std.specs.Prelude.{ℕ, ◌+◌, ◌-◌, Bool, true, List, [], ◌∷◌, ◌++◌, length, map, Option, option_and_then}
-use Rattle.pa_a64.specs.declared.instr.Instr.{Instr}
+use Rattle.std.specs.Prelude.{ℕ, ◌+◌, List, [], ◌∷◌, ◌++◌, length, map, Option, option_and_then}
 use Rattle.pa_a64.specs.Decoding.{encoded}
 use Rattle.pa_object.specs.declared.object.Object.{Object}
 use Rattle.pa_object.specs.declared.object.Mark.{Mark}

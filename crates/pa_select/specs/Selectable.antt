@@ -1,5 +1,5 @@
 -- Which functions have code yet.
-use Rattle.std.specs.Prelude.{◌≤◌, ◌<◌, ℕ, List, [], ◌∷◌, All, length}
+use Rattle.std.specs.Prelude.{◌≤◌, ◌<◌, All, length}
 use Rattle.pa_lir.specs.declared.op.Op.{Op}
 use Rattle.pa_lir.specs.declared.op.Op.TheVariants as op
 use Rattle.pa_lir.specs.declared.function.LirFn.{LirFn}

@@ -1,7 +1,7 @@
 -- The code of a function: its prologue, and the instructions of each operation in order. Return addresses are signed under the
 -- key IB over the stack pointer (Clang, Pointer Authentication: return addresses). The frame is that of `pa_frame`, and x29 and
 -- x30 are saved in its first 16 bytes.
-use Rattle.std.specs.Prelude.{ℕ, suc, ◌+◌, ◌-◌, ◌==◌, ℤ, pos, Bool, true, false, nat_lt, if◌then◌else◌, List, [], ◌∷◌, ◌++◌, length, take, sum_by, Option, Some, None, option_and_then}
+use Rattle.std.specs.Prelude.{ℕ, suc, ◌+◌, ◌-◌, ◌==◌, ℤ, pos, if◌then◌else◌, List, [], ◌∷◌, ◌++◌, length, take, sum_by, Option, Some, None, option_and_then}
 use Rattle.std.specs.Option.{option_map_or}
 use Rattle.pa_a64.specs.declared.instr.Instr.{Instr}
 use Rattle.pa_a64.specs.declared.instr.Instr.TheVariants.{LoadStorePair, Branch, CompareBranch, Stack}
