@@ -14,6 +14,4 @@ mod images;
 #[cfg(test)]
 mod loads;
 #[cfg(test)]
-mod slots;
-#[cfg(test)]
 mod symbols;
