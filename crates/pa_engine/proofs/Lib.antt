@@ -1,2 +1,3 @@
+mod ImageRuns
 mod PieceLemmas
 mod ReportLemmas
