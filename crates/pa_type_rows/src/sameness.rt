@@ -1,6 +1,4 @@
 //! Each form of type against every other, and each against itself with one part changed.
-ghost use Rattle.std.specs.Prelude.{◌≡◌};
-
 use crate::layouts::{INT8, NAMES, add};
 use crate::samples::{CONST_INT, INT, LONG, Leaf, SCHEMA, Sample, VOID, built};
 use pa_ctype::Types;
@@ -68,6 +66,14 @@ const SAMPLES: [(Sample, usize); 37] = [
     (Sample::Function(&[INT, LONG, INT], INT), 36),
 ];
 
+/// A table with two structs of a member each.
+fn with_structs(alloc: Global) -> Result<Types, Memory> {
+    let mut types = Types::new(alloc, NAMES);
+    add(alloc, &mut types, &[(0, INT8, 0)])?;
+    add(alloc, &mut types, &[(0, INT8, 0)])?;
+    Ok(types)
+}
+
 /// Whether two types are the same, whether they are but for a `const` of their own, and whether they are but for qualifiers. None:
 /// one of them cannot be made.
 fn compared(
@@ -75,9 +81,7 @@ fn compared(
     types: &mut Types,
     a: Sample,
     b: Sample,
-) -> Result<Option<(bool, bool, bool)>, Memory>
-    ensures { types.new.names ≡ types.old.names }
-{
+) -> Result<Option<(bool, bool, bool)>, Memory> {
     let Some(first) = built(alloc, types, false, a)? else {
         return Ok(None);
     };
@@ -93,11 +97,7 @@ fn compared(
 
 #[test]
 fn types_are_the_same_as_themselves_alone(rt: HostRuntime) -> Result<(), Fail> {
-    let mut types = Types::new(rt.alloc(), NAMES);
-    for _ in 0..2 {
-        let added = add(rt.alloc(), &mut types, &[(0, INT8, 0)]).map_err(|_| "no memory")?;
-        assert!(rt; added.is_some());
-    }
+    let mut types = with_structs(rt.alloc()).map_err(|_| "no memory")?;
     for (index, (sample, bare)) in SAMPLES.iter().enumerate() {
         for (place, (other, plain)) in SAMPLES.iter().enumerate() {
             let got = compared(rt.alloc(), &mut types, *sample, *other).map_err(|_| "no memory")?;
