@@ -1,2 +1,2 @@
-mod Places
-mod Taken
+pub mod Places
+pub mod Taken

@@ -66,9 +66,20 @@ bytes_before f local = sum_by rounded (take local f.locals)
 abbrev pub temp_bytes_before : LirFn → ℕ → ℕ
 temp_bytes_before f local = if nat_lt local f.parameters then 0 else 8 * held f
 
+-- where a temporary begins
+abbrev pub place_of_temp : LirFn → ℕ → ℕ
+place_of_temp f temp = saved_bytes + bytes_before f f.parameters + 8 * temp
+
+-- where a local begins
+abbrev pub place_of_local : LirFn → ℕ → ℕ
+place_of_local f local = saved_bytes + (bytes_before f local + temp_bytes_before f local)
+
+abbrev pub size_of_frame : LirFn → ℕ
+size_of_frame f = next_multiple_of (saved_bytes + (bytes f + 8 * held f)) 16
+
 -- parameters first, then the temporaries by their numbers, then the other locals
 pub record IsLaidOut (f : LirFn) (frame : Frame) : Type 0 where
   pub count : length frame.slots.locals ≡ length f.locals
-  pub locals : (l : ℕ) → l < length f.locals → slice_index frame.slots.locals l ≡ saved_bytes + (bytes_before f l + temp_bytes_before f l)
+  pub locals : (l : ℕ) → l < length f.locals → slice_index frame.slots.locals l ≡ place_of_local f l
   pub temps : frame.slots.temps ≡ saved_bytes + bytes_before f f.parameters
-  pub size : frame.size ≡ next_multiple_of (saved_bytes + (bytes f + 8 * held f)) 16
+  pub size : frame.size ≡ size_of_frame f

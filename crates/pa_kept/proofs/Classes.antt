@@ -25,7 +25,8 @@ use Rattle.pa_object.specs.Traps.{trap_of, Asked, asked_by_branch, asked_by_blra
 use Rattle.pa_object.specs.Effects.{effect, raw_of, is_taken, immediate_of, called, prints, reads, exits}
 use Rattle.pa_object.specs.Run.{Place}
 use Rattle.pa_object.specs.Shape.{last_taken, all_known}
-use Rattle.pa_kept.specs.Rows.{begins_raw, ends_raw, writes_memory}
+use Rattle.pa_object.specs.Rows.{writes_memory}
+use Rattle.pa_kept.specs.Rows.{begins_raw, ends_raw}
 use Rattle.pa_kept.specs.Kept.{raw_next, raw_since}
 use Rattle.pa_kept.proofs.Attributes.{computes, is_straight, writes, straight_row}
 use Rattle.pa_kept.proofs.Sound.{Class, Off, Head, Free, Within, Adding, Stub, Fits, FitsFree, FitsWithin, FitsStub, FitsAdding, Below, TakenIn, At}

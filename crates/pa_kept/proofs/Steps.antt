@@ -17,7 +17,8 @@ use Rattle.pa_object.specs.Effects.{effect}
 use Rattle.pa_object.specs.Run.{Place}
 use Rattle.pa_object.specs.Shape.{is_known_take, all_known}
 use Rattle.pa_object.proofs.Growth.{effect_counts, effect_leaves}
-use Rattle.pa_kept.specs.Rows.{begins_raw, ends_raw, writes_memory}
+use Rattle.pa_object.specs.Rows.{writes_memory}
+use Rattle.pa_kept.specs.Rows.{begins_raw, ends_raw}
 use Rattle.pa_kept.specs.Kept.{CodeAt, is_by, all_known_by, raw_next, raw_since, RawIsShort, EventKept, LogKept, PlaceKept}
 use Rattle.pa_kept.proofs.Attributes.{is_straight, Straight, straight_row}
 use Rattle.pa_kept.proofs.Unchanged.{effect_still}

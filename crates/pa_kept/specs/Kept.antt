@@ -16,7 +16,8 @@ use Rattle.pa_a64.specs.declared.instr.Instr.{Instr}
 use Rattle.pa_a64.specs.Decoding.{decoded}
 use Rattle.pa_object.specs.Run.{Place, Watched}
 use Rattle.pa_object.specs.Shape.{Taken, last_taken, is_known_take, all_known}
-use Rattle.pa_kept.specs.Rows.{writes_memory, begins_raw, ends_raw}
+use Rattle.pa_object.specs.Rows.{writes_memory}
+use Rattle.pa_kept.specs.Rows.{begins_raw, ends_raw}
 
 -- where code stands: its words, the first words of functions, and the words behind calls
 pub record CodeAt : Type 0 where

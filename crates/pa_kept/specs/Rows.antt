@@ -1,28 +1,12 @@
--- Which instructions accept and go on, call, sign, write memory.
-use Rattle.std.specs.Prelude.{ℕ, Bool, true, false, Option, Some, None}
-use Rattle.std.specs.Option.{option_map_or}
+-- Which instructions accept and go on, call, sign.
+use Rattle.std.specs.Prelude.{Bool, true, false}
 use Rattle.pa_a64.specs.declared.instr.Instr.{Instr}
 use Rattle.pa_a64.specs.declared.instr.Instr.TheVariants as i
-use Rattle.pa_a64.specs.declared.instr.LoadStoreOp.TheVariants.{Str}
-use Rattle.pa_a64.specs.declared.instr.LoadStoreWordOp.TheVariants.{Strw}
-use Rattle.pa_a64.specs.declared.instr.LoadStoreHalfOp.TheVariants.{Strh}
-use Rattle.pa_a64.specs.declared.instr.LoadStoreByteOp.TheVariants.{Strb}
-use Rattle.pa_a64.specs.declared.instr.LoadStoreUnscaledOp.TheVariants.{Stur}
-use Rattle.pa_a64.specs.declared.instr.LoadStorePairOp.TheVariants.{Stp}
 use Rattle.pa_a64.specs.declared.instr.BranchRegisterOp.TheVariants.{Blr}
 use Rattle.pa_a64.specs.declared.instr.BranchAuthenticatedOp.TheVariants.{Blraa, Blrab}
 use Rattle.pa_a64.specs.declared.instr.StackOp.TheVariants.{Pacibsp, Autibsp}
 use Rattle.pa_a64.specs.declared.instr.PlainOp.TheVariants.{Paciza, Autiza}
 use Rattle.pa_image.specs.Places.{is_call}
-
-abbrev pub writes_memory : Instr → Bool
-writes_memory (i.LoadStore Str rt rn imm) = true
-writes_memory (i.LoadStoreWord Strw rt rn imm) = true
-writes_memory (i.LoadStoreHalf Strh rt rn imm) = true
-writes_memory (i.LoadStoreByte Strb rt rn imm) = true
-writes_memory (i.LoadStoreUnscaled Stur rt rn imm) = true
-writes_memory (i.LoadStorePair Stp rt rt2 rn imm) = true
-writes_memory other = false
 
 -- an authentication that goes on behind it, or a call: from here on a raw code pointer may stand in a register
 abbrev pub begins_raw : Instr → Bool

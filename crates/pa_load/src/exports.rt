@@ -1,18 +1,16 @@
 ghost use Rattle.std.specs.Prelude.{◌≡◌, ℕ, List, [], ◌∷◌, IfOk, OnOk};
 ghost use Rattle.pa_macho.specs.Layout.{base_of};
 ghost use Rattle.pa_macho.specs.declared.header.Role.TheVariants.{Library};
-ghost use Rattle.std.specs.Option.{option_or};
 ghost use Rattle.pa_image.specs.Places.{exported};
-ghost use Rattle.pa_load.specs.Exports.{kept, noted};
+ghost use Rattle.pa_names.specs.Kept.{Adds, noted};
+ghost use Rattle.pa_load.specs.Exports.{kept};
 
 use indexmap::IndexMap;
+use pa_macho::{FRONT, Role};
 use pa_names::{TextDigest, TextKey};
 use pa_num::Memory;
 use pa_object::Mark;
 use std::alloc::Global;
-
-/// Where `__text` of a runtime image lies: it stays where its file says.
-const TEXT: u64 = 0x1_8000_0400;
 
 /// The functions that a runtime image exports, with their addresses. Of several with one name the first counts.
 #[derive(Drop)]
@@ -41,7 +39,7 @@ impl<'a> Exports<'a> {
 
     /// Keeps the address of a function, unless its name has one.
     fn note(&mut self, own: &'a [u8], address: u64) -> Result<(), Memory>
-        ensures { OnOk result ((name : List ℕ) → kept self.new name ≡ option_or (kept self.old name) (noted own.now address name)) }
+        ensures { OnOk result (Adds (kept self.old) (kept self.new) (noted own.now address)) }
     {
         if self.find(own).is_some() {
             return Ok(());
@@ -54,10 +52,12 @@ impl<'a> Exports<'a> {
 
     /// Keeps the address of a mark that other images see.
     fn note_mark(&mut self, mark: &'a Mark) -> Result<(), Memory>
-        ensures { OnOk result ((name : List ℕ) → kept self.new name ≡ option_or (kept self.old name) (exported (base_of Library) (mark.now ∷ []) name)) }
+        ensures { OnOk result (Adds (kept self.old) (kept self.new) (exported (base_of Library) (mark.now ∷ []))) }
     {
         if mark.public {
-            self.note(mark.name.as_slice(), TEXT + 4 * u64::from(mark.at))
+            // A runtime image stays where its file says.
+            let text = Role::Library.base() + FRONT as u64;
+            self.note(mark.name.as_slice(), text + 4 * u64::from(mark.at))
         } else {
             Ok(())
         }

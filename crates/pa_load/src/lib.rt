@@ -6,8 +6,6 @@ mod filling;
 mod loading;
 mod rule;
 mod segments;
-#[cfg(test)]
-mod tests;
 
 pub use loading::load;
 pub use pa_processor::Loaded;

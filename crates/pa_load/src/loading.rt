@@ -19,18 +19,13 @@ use crate::rule::LoadRule;
 use crate::segments::{STACK_BASE, STACK_SIZE, Segments, add_stack};
 use pa_image::Image;
 use pa_log::Log;
-use pa_macho::Places;
+use pa_macho::{FRONT, Places};
 use pa_mem::Space;
 use pa_num::{Bytes, Fault, Memory, Sequence};
 use pa_pac::Pac;
 use pa_processor::Loaded;
+use pa_slots::PAGE;
 use std::alloc::Global;
-
-/// The bytes of a page.
-const PAGE: u64 = 0x4000;
-
-/// How far behind an image's first byte `__text` begins.
-const TEXT_PLACE: u64 = 0x400;
 
 /// The addresses of the program's imports, or the first that the runtime image does not export.
 fn addresses_of(
@@ -63,7 +58,7 @@ fn place(main: &Image, places: &Places, slide: u16, imports: Sequence<u64>) -> P
     requires small { places.now.end < 2 ^ 60 }
     ensures { (runtime : Image) → imports ≡ import_addresses main.now runtime → result ≡ filling main.now runtime slide }
 {
-    let shift = PAGE * u64::from(slide);
+    let shift = PAGE as u64 * u64::from(slide);
     let base = main.role.base() + shift;
     Placed {
         shift,
@@ -179,7 +174,7 @@ pub fn load<P: Pac>(
     Ok(Loaded {
         space,
         log,
-        pc: placed.base + TEXT_PLACE,
+        pc: placed.base + FRONT as u64,
         sp: STACK_BASE + STACK_SIZE as u64,
     })
 }

@@ -11,10 +11,8 @@ use pa_image::{Image, write_image};
 use pa_macho::Places;
 use pa_mem::{Rights, Space};
 use pa_num::{Bytes, Memory};
+use pa_slots::PAGE;
 use std::alloc::Global;
-
-/// The bytes of a page.
-const PAGE: usize = 0x4000;
 
 /// Where the stack begins; it ends at 0x170000000.
 pub(crate) const STACK_BASE: u64 = 0x1_6F80_0000;

@@ -14,7 +14,7 @@ use Rattle.pa_macho.specs.declared.places.Places.{Places}
 use Rattle.pa_macho.specs.Layout as fields
 use Rattle.pa_macho.specs.Layout.{places_of}
 use Rattle.pa_macho.specs.Writing.{FieldsFit}
-use Rattle.pa_macho.proofs.Fits.{room_fits}
+use Rattle.pa_macho.proofs.Fits.{room_fits, fields_fit}
 use Rattle.pa_fixups.specs.Fixups as fixups
 use Rattle.pa_fixups.specs.Fixups.{ImportsFit}
 use Rattle.pa_object.specs.Linkable.{Ascends}
@@ -66,18 +66,7 @@ pal_places = ap places_of header ∙ places
 
 header_fits : FieldsFit h p
 unfolding fields.text_segment fields.text_section fields.stubs_section fields.consts_section fields.data_segment fields.got_section fields.cells_section fields.linkedit_segment fields.fixups_command fields.symbols_command fields.segment_of fields.section_of
-header_fits = record {
-  text_segment = room_fits (fields.text_segment h p p.end) refl;
-  text = room_fits (fields.text_section h) refl;
-  stubs = room_fits (fields.stubs_section h p) refl;
-  consts = room_fits (fields.consts_section h p) refl;
-  data_segment = room_fits (fields.data_segment h p p.end) refl;
-  got = room_fits (fields.got_section h p) refl;
-  cells = room_fits (fields.cells_section h p) refl;
-  linkedit = room_fits (fields.linkedit_segment h p p.end) refl;
-  fixups = room_fits (fields.fixups_command h p) refl;
-  symbols = room_fits (fields.symbols_command h p) refl;
-}
+header_fits = fields_fit h p refl
 
 imports_fit : ImportsFit (data_at Library p) []
 unfolding fixups.header_of fixups.segments_of fixups.pages_of

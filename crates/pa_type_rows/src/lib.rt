@@ -4,6 +4,10 @@
 #[cfg(test)]
 mod chain;
 #[cfg(test)]
+mod joined;
+#[cfg(test)]
+mod layouts;
+#[cfg(test)]
 mod sameness;
 #[cfg(test)]
 mod samples;

@@ -1,4 +1,7 @@
 //! Each form of type against every other, and each against itself with one part changed.
+ghost use Rattle.std.specs.Prelude.{◌≡◌};
+
+use crate::layouts::{INT8, NAMES, add};
 use crate::samples::{CONST_INT, INT, LONG, Leaf, SCHEMA, Sample, VOID, built};
 use pa_ctype::Types;
 use pa_num::Memory;
@@ -44,7 +47,7 @@ const SAMPLES: [(Sample, usize); 37] = [
     (Sample::Pointer(INT, Some(WITHOUT_ADDRESS)), 10),
     (Sample::Pointer(INT, Some(OTHER_DISCRIMINATOR)), 10),
     (Sample::Array(INT, None), 17),
-    (Sample::Array(INT, Some(0)), 18),
+    (Sample::Array(INT, Some(1)), 18),
     (Sample::Array(INT, Some(2)), 19),
     (Sample::Array(INT, Some(3)), 20),
     (Sample::Array(CONST_INT, Some(2)), 19),
@@ -65,29 +68,40 @@ const SAMPLES: [(Sample, usize); 37] = [
     (Sample::Function(&[INT, LONG, INT], INT), 36),
 ];
 
-/// Whether two types are the same, whether they are but for a `const` of their own, and whether they are but for qualifiers.
+/// Whether two types are the same, whether they are but for a `const` of their own, and whether they are but for qualifiers. None:
+/// one of them cannot be made.
 fn compared(
     alloc: Global,
     types: &mut Types,
     a: Sample,
     b: Sample,
-) -> Result<(bool, bool, bool), Memory> {
-    let first = built(alloc, types, false, a)?;
-    let second = built(alloc, types, false, b)?;
-    Ok((
+) -> Result<Option<(bool, bool, bool)>, Memory>
+    ensures { types.new.names ≡ types.old.names }
+{
+    let Some(first) = built(alloc, types, false, a)? else {
+        return Ok(None);
+    };
+    let Some(second) = built(alloc, types, false, b)? else {
+        return Ok(None);
+    };
+    Ok(Some((
         types.is_same(first, second),
         types.is_same_but_const(first, second),
         types.is_same_bare(first, second),
-    ))
+    )))
 }
 
 #[test]
 fn types_are_the_same_as_themselves_alone(rt: HostRuntime) -> Result<(), Fail> {
-    let mut types = Types::new(rt.alloc(), 0);
+    let mut types = Types::new(rt.alloc(), NAMES);
+    for _ in 0..2 {
+        let added = add(rt.alloc(), &mut types, &[(0, INT8, 0)]).map_err(|_| "no memory")?;
+        assert!(rt; added.is_some());
+    }
     for (index, (sample, bare)) in SAMPLES.iter().enumerate() {
         for (place, (other, plain)) in SAMPLES.iter().enumerate() {
             let got = compared(rt.alloc(), &mut types, *sample, *other).map_err(|_| "no memory")?;
-            let want = (index == place, index == place, *bare == *plain);
+            let want = Some((index == place, index == place, *bare == *plain));
             assert_eq!(rt; got, want, "at {sample:?} and {other:?}");
         }
     }

@@ -4,6 +4,6 @@ use Rattle.pa_load.proofs.loading.place.Goals as goal
 
 pub returns : goal.returns
 returns c = λ runtime found.
-    let shift = 0x4000 * c.from-shift.result in
+    let shift = 0x4000 * c.from.result in
     placed_is c.args.main.now runtime c.args.slide shift (c.base.result + shift) (c.base.result + shift + c.args.places.now.got) c.args.imports c.args.places.now c.requires.program c.requires.places
-    (ap (λ (n : ℕ). 0x4000 * n) c.from-shift.ensures) (ap (λ (n : ℕ). n + shift) c.base.ensures) refl found
+    (ap (λ (n : ℕ). 0x4000 * n) c.from.ensures) (ap (λ (n : ℕ). n + shift) c.base.ensures) refl found

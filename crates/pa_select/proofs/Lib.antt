@@ -1,0 +1,7 @@
+mod Costs
+mod Lengths
+mod Linking
+mod Others
+mod Passes
+mod Ranges
+mod Selectable
