@@ -6,3 +6,4 @@ pub mod Computing
 pub mod Selected
 pub mod Selectable
 pub mod Objects
+pub mod Calls
