@@ -44,7 +44,7 @@ fn links_to_the_last_slot_of_a_page(rt: HostRuntime) -> Result<(), Fail> {
 #[test]
 fn tells_the_first_flaw(rt: HostRuntime) -> Result<(), Fail> {
     // The first slot, its word, and the flaw: a link past the page, an ordinal before a link, a zero bit before an
-    // ordinal, a target behind the end, a place that holds no slot.
+    // ordinal, a target after the end, a place that holds no slot.
     let flaws = [
         (8, 0x3FF8_0001_0000_0000, ImageRule::F4, 8),
         (16, 0x7FF8_0000_0000_0001, ImageRule::F5, 16),

@@ -93,7 +93,7 @@ fn spells_one_page_and_one_import(rt: HostRuntime) -> Result<(), Fail> {
 #[test]
 fn tells_the_first_flaw(rt: HostRuntime) -> Result<(), Fail> {
     // A byte that changes, and the flaw: version, count, gaps, the format of pointers, the library, where a name begins,
-    // the zero byte before the names, a name's end, and a byte behind it.
+    // the zero byte before the names, a name's end, and a byte after it.
     let flaws = [
         (0, 1, ImageRule::F2, 0),
         (16, 2, ImageRule::F2, 12),

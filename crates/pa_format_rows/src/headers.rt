@@ -228,7 +228,7 @@ fn tells_sizes_that_the_file_has_not(rt: HostRuntime) -> Result<(), Fail> {
 
 #[test]
 fn fixups_may_end_before_their_imports(rt: HostRuntime) -> Result<(), Fail> {
-    // With two pages the starts end behind 82 bytes and the padding behind 84.
+    // With two pages the starts end after 82 bytes and the padding after 84.
     for fixups in [60, 82, 83] {
         let header = Header {
             cells: 0x4001,

@@ -248,7 +248,7 @@ fn every_part(alloc: Global, role: Role) -> Result<Image, Fail> {
     })
 }
 
-/// That image as a library, behind its header: its bytes by eights where they aren't all zero, as another program spells them.
+/// That image as a library, after its header: its bytes by eights where they aren't all zero, as another program spells them.
 const LIBRARY: [(usize, u64); 34] = [
     (0x400, 0xd400_0061_9400_0003),
     (0x408, 0xd503_237f_d420_0000),
@@ -300,7 +300,7 @@ fn spells_a_library(rt: HostRuntime) -> Result<(), Fail> {
     Ok(())
 }
 
-/// An image whose one function has a name of so many bytes. With 14,238 it has 16 MiB.
+/// An image whose one function has a name of n bytes. With 14,238 it has 16 MiB.
 fn large(alloc: Global, name_len: usize) -> Result<Image, Fail> {
     let mut name = Vec::new(alloc);
     name.resize(name_len, b'f')?;

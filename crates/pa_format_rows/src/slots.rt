@@ -57,7 +57,7 @@ const FIXES: [Fix; 4] = [
     },
 ];
 
-/// The two pages, laid out by hand: the words of the slots, and a word of `__data` behind them.
+/// The two pages, laid out by hand: the words of the slots, and a word of `__data` after them.
 fn pages(alloc: Global) -> Result<Vec<u8>, AllocError>
     ensures { IfOk result (λ bytes. length bytes.items ≡ 0x8000) }
 {
@@ -117,7 +117,7 @@ fn tells_the_first_flaw(rt: HostRuntime) -> Result<(), Fail> {
     // The starts of the pages, a place with its word, and the flaw.
     let rows = [
         ([0, 0], 0x4018, 0, None),
-        // A start that no slot may have: in a word, behind `__data`, across the border of pages.
+        // A start that no slot may have: in a word, after `__data`, across the border of pages.
         ([0, 4], 0x4018, 0, Some((F4, 0xc050))),
         ([0, 0x20], 0x4018, 0, Some((F4, 0xc050))),
         ([0x3ffc, 0], 0x4018, 0, Some((F4, 0xc04e))),
@@ -127,13 +127,13 @@ fn tells_the_first_flaw(rt: HostRuntime) -> Result<(), Fail> {
         ([0, 0], 8, 0x1_0000, Some((H3, 0x400a))),
         ([0, 0], 0x4020, 0x100, Some((H3, 0x8021))),
         ([0, 0], 0x7ff8, 1 << 63, Some((H3, 0xbfff))),
-        // A zero bit, an ordinal, and targets below the base and behind the end.
+        // A zero bit, an ordinal, and targets below the base and after the end.
         ([0, 0], 0x4000, 0x4010_0000_0001_0000, Some((F3, 0x8000))),
         ([0, 0], 0x4000, 0x4010_0000_0000_0001, Some((F5, 0x8000))),
         ([0, 0], 0x4010, 0xffff_ffff, Some((F6, 0x8010))),
         ([0, 0], 0x4010, 0x1_0001_0001, Some((F6, 0x8010))),
         ([0, 0], 0x4010, 0x8001_0000_0001_0000, Some((F6, 0x8010))),
-        // A link across the border of pages, and one behind `__data`.
+        // A link across the border of pages, and one after `__data`.
         ([0, 0], 0x3ff8, 0x0008_0001_0000_0400, Some((F4, 0x7ff8))),
         ([0, 0], 0x4010, 0x0014_0001_0001_0000, Some((F4, 0x8010))),
         // The first page before the second, and chains before zeros.
@@ -168,7 +168,7 @@ fn tells_which_slots_fit(rt: HostRuntime) -> Result<(), Fail> {
         (0, 12, false),
         (4, 16, false),
         (0, 0x3ffc, false),
-        // These stand on a byte of `__data` that isn't zero, behind `__data`, and behind all pages.
+        // These stand on a byte of `__data` that isn't zero, after `__data`, and after all pages.
         (0, 0x4018, false),
         (0, 0x4020, false),
         (0, 0x8000, false),

@@ -86,7 +86,7 @@ fn flaw(alloc: Global, symbols: &[u8], strings: &[u8]) -> Result<u64, Memory>
 #[test]
 fn tells_the_entry_of_a_wrong_field(rt: HostRuntime) {
     // A byte of the symbols that changes, and where the flaw is told: the place of a name, the type, the section, the
-    // description, and an address that is below the code, behind it, in a word, or that of the entry before.
+    // description, and an address that is below the code, after it, in a word, or that of the entry before.
     let flaws = [
         (0, 2, 0x8030),
         (3, 1, 0x8030),
@@ -195,7 +195,7 @@ fn only_public_names_are_distinct(rt: HostRuntime) -> Result<(), Fail> {
 
 #[test]
 fn tells_legal_marks(rt: HostRuntime) -> Result<(), Fail> {
-    // A second mark behind `a` at the word 4.
+    // A second mark after `a` at the word 4.
     for (name, at, legal) in [
         (b"b".as_slice(), 5, true),
         (b"b".as_slice(), 9, true),
@@ -211,7 +211,7 @@ fn tells_legal_marks(rt: HostRuntime) -> Result<(), Fail> {
         push(&mut marks, rt.alloc(), name, at, true)?;
         assert_eq!(rt; legal_marks(marks.as_slice(), TEXT), legal, "at {at}");
     }
-    // The last word would stand behind the last address.
+    // The last word would stand after the last address.
     for (at, legal) in [(8, true), (9, false)] {
         let mut marks = Marks::new(rt.alloc());
         push(&mut marks, rt.alloc(), b"a", at, true)?;
