@@ -15,7 +15,7 @@ no_feed text k h = false_from_ne_true (is_line_feed (get_or text k 0)) h
 pub one_line : (text : Text) → Nowhere (Passes (is_byte 10) text) 0 (length text) → pieces text ≡ text ∷ []
 one_line text none = slice_split_none is_line_feed text (λ k d h. ap is_line_feed (get_or_default text k d 0 h) ∙ no_feed text k (none k (omega arith) h))
 
--- the first line feed stands behind the first line
+-- the first line feed stands after the first line
 pub first_line : (text : Text) (k : ℕ) → NoneBefore (Passes (is_byte 10) text) 0 (length text) k → Passes (is_byte 10) text k → pieces text ≡ take k text ∷ pieces (drop (k + 1) text)
 first_line text k before here =
     let high : k < length text = before.high in

@@ -67,7 +67,7 @@ lines_ahead rest ahead own behind e f = ap (λ r. map line (pieces_behind r)) e 
 pub none_ahead : (rest : Option (Bor Text)) → rest ≡ None → map line (pieces_behind rest) ≡ []
 none_ahead rest e = ap (λ r. map line (pieces_behind r)) e
 
--- how many bytes are left, where the line ahead gives so many words
+-- how many bytes are left, where the line ahead gives n words
 pub left : (rest : Option (Bor Text)) (ahead : Bor Text) (own : Text) (behind : Option (Bor Text)) (said : Line) (count : ℕ) → rest ≡ Some ahead → own_len ahead.now ≡ own_len own + len_behind behind → said ≡ line own → count ≡ words said → (count + len_behind behind + 1 ≤ len_behind rest) × (1 + len_behind behind ≤ len_behind rest)
 left rest ahead own behind said count e f g h =
     let size : len_behind rest ≡ own_len ahead.now = ap len_behind e in

@@ -18,7 +18,7 @@ is_label name Blank = false
 is_label name (Row form operands) = false
 is_label name Unknown = false
 
--- the first label of this name in lines of which the first has this number, with so many words before it
+-- the first label of this name in lines of which the first has this number, with n words before it
 unfoldable pub find_from : Text → (number at : ℕ) → List Line → Option Place
 find_from name number at [] = None
 find_from name number at (line ∷ lines) =

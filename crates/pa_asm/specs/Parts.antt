@@ -26,7 +26,7 @@ nothing = record { code = []; marks = []; refs = [] }
 abbrev pub joined : Parts → Parts → Parts
 joined first more = record { code = first.code ++ more.code; marks = first.marks ++ more.marks; refs = first.refs ++ more.refs }
 
--- ---- one line, with so many words before it
+-- ---- one line, with n words before it
 
 -- the label is the first of its name
 abbrev pub IsFirst : Labels → (number : ℕ) → Text → Type 0
@@ -65,7 +65,7 @@ Breaks labels number at (Label public name) rule = (IsFirst labels number name �
 Breaks labels number at (Row form operands) rule = RowBreaks labels at form operands rule
 Breaks labels number at Unknown rule = rule ≡ A1
 
--- ---- lines, of which the first has this number and so many words before it
+-- ---- lines, of which the first has this number and n words before it
 
 abbrev pub AllGive : Labels → (number at : ℕ) → List Line → Parts → Type 0
 AllGive labels number at [] parts = parts ≡ nothing

@@ -4,7 +4,7 @@ ghost use Rattle.pa_asm.specs.Reading.{pieces_behind, len_behind, own_len};
 
 use memchr::memchr;
 
-/// The first line of a text, and what stands behind its line feed if it has one.
+/// The first line of a text, and what stands after its line feed if it has one.
 pub fn cut_line(text: &[u8]) -> (&[u8], Option<&[u8]>)
     ensures pieces { pieces text.now ≡ result.0.now ∷ pieces_behind result.1 }
     ensures len { own_len text.now ≡ own_len result.0.now + len_behind result.1 }

@@ -269,7 +269,7 @@ pub count_small : (at : DataAt) (count : ℕ) → AllFit (header_of at count) �
 unfolding header_of
 count_small at count h = omega (arith, h.2.2.2.2.0)
 
--- the parts, put one behind the other
+-- the parts, put one after the other
 pub parts_put : (at : DataAt) (starts : List ℕ) (imports : List (List ℕ)) (o0 o1 o2 o3 o4 o5 o6 o7 o8 : List ℕ) → o1 ≡ o0 ++ spelled (header_of at (length imports)) → o2 ≡ o1 ++ spelled (segments_of at)
     → o3 ≡ o2 ++ spelled (pages_of at) → o4 ≡ o3 ++ spelled (map two starts) → o5 ≡ o4 ++ replicate (imports_at at - starts_end at) 0 → o6 ≡ o5 ++ spelled (entries 1 imports)
     → o7 ≡ o6 ++ (0 ∷ []) → o8 ≡ o7 ++ ended imports → o8 ≡ o0 ++ fixups_bytes at (fixups_with starts imports)

@@ -62,7 +62,7 @@ places (suc n) bounds page at =
     at ∷ (if (link_at page at == 0) || not (may_stand bounds (length page) (at + 8 * link_at page at)) then []
     else places n bounds page (at + 8 * link_at page at))
 
--- each slot stands behind the one before it, so there are fewer than the page has bytes
+-- each slot stands after the one before it, so there are fewer than the page has bytes
 unfoldable pub chain_places : Bounds → List ℕ → ℕ → List ℕ
 chain_places bounds page at = places (length page - at) bounds page at
 
@@ -119,7 +119,7 @@ abbrev pub AllFit : Bounds → ℕ → List Fix → Type 0
 AllFit bounds len [] = Unit {0}
 AllFit bounds len (fix ∷ fixes) = FixFits bounds len fix × AllFit bounds len fixes
 
--- the slots stand one behind the other
+-- the slots stand one after the other
 abbrev pub Rising : Fix → List Fix → Type 0
 Rising fix [] = Unit {0}
 Rising fix (next ∷ fixes) = (fix.at < next.at) × Rising next fixes
@@ -138,7 +138,7 @@ pub record CanStand (len : ℕ) (fix : Fix) : Type 0 where
   pub inside : fix.at + 8 ≤ len
   pub fields : FieldsFit fix.kind
 
--- the slots can be written into a page of that length, one behind the other
+-- the slots can be written into a page of that length, one after the other
 abbrev pub AreWritable : ℕ → List Fix → Type 0
 AreWritable len [] = Unit {0}
 AreWritable len (fix ∷ fixes) = CanStand len fix × Rising fix fixes × AreWritable len fixes

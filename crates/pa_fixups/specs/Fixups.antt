@@ -31,11 +31,11 @@ unfoldable pub header_of : DataAt → ℕ → List FileField
 header_of at count =
     four 0 ∷ four 32 ∷ four (imports_at at) ∷ four (names_at at count) ∷ four count ∷ four 1 ∷ four 0 ∷ four 0 ∷ []
 
--- __DATA, the last segment but one, has starts, behind the offsets of the segments
+-- __DATA, the last segment but one, has starts, after the offsets of the segments
 abbrev pub segment_offset : ℕ → ℕ → FileField
 segment_offset segments segment = four (if segments == segment + 2 then 24 else 0)
 
--- the count of segments, and an offset for each; what is behind the last of them is zero too
+-- the count of segments, and an offset for each; what is after the last of them is zero too
 unfoldable pub segments_of : DataAt → List FileField
 segments_of at =
     four at.segments ∷ segment_offset at.segments 0 ∷ segment_offset at.segments 1 ∷ segment_offset at.segments 2
@@ -50,7 +50,7 @@ pages_of at = four (22 + 2 * at.pages) ∷ two 0x4000 ∷ two 1 ∷ eight at.off
 abbrev pub entry : ℕ → FileField
 entry place = four (1 + 2 ^ 9 * place)
 
--- the entries of imports whose names stand behind one another from a place on
+-- the entries of imports whose names stand one after another from a place on
 abbrev pub entries : ℕ → List (List ℕ) → List FileField
 entries place [] = []
 entries place (name ∷ names) = entry place ∷ entries (place + (length name + 1)) names
@@ -96,7 +96,7 @@ pub record IsPart (at : DataAt) (fixups : Fixups) (part : List ℕ) : Type 0 whe
 abbrev pub count_in : List ℕ → ℕ
 count_in part = number 4 16 part
 
--- the names with what stands behind them
+-- the names with what stands after them
 abbrev pub text_in : DataAt → List ℕ → List ℕ
 text_in at part = drop (names_at at (count_in part) + 1) part
 
@@ -132,7 +132,7 @@ name_checks (suc n) place at part text =
     Holds F7 place ((number 4 place part / 2 ^ 9 == at) && has_end text)
     ∷ name_checks n (place + 4) (at + (name_length text + 1)) part (after_first is_zero text)
 
--- nothing stands behind the last name
+-- nothing stands after the last name
 abbrev pub end_check : ℕ → List ℕ → List ℕ → Check
 end_check count part text = Holds F1 (length part - length (behind count text)) (length (behind count text) == 0)
 

@@ -58,7 +58,7 @@ fn put_starts(out: &mut Vec<u8>, starts: &[u16]) -> Result<(), AllocError>
     Ok(())
 }
 
-/// Appends the entries of imports whose names begin behind one zero byte.
+/// Appends the entries of imports whose names begin after one zero byte.
 fn put_entries(out: &mut Vec<u8>, names: &[Name]) -> Result<(), AllocError>
     requires { AllFit (entries 1 names.now) }
     ensures { OnOk result (out.new.items ≡ out.old.items ++ spelled (entries 1 names.now)) }
@@ -71,7 +71,7 @@ fn put_entries(out: &mut Vec<u8>, names: &[Name]) -> Result<(), AllocError>
     Ok(())
 }
 
-/// Appends each name with a zero byte behind it.
+/// Appends each name with a zero byte after it.
 fn put_names(out: &mut Vec<u8>, names: &[Name]) -> Result<(), AllocError>
     ensures { OnOk result (out.new.items ≡ out.old.items ++ ended names.now) }
 {
@@ -103,7 +103,7 @@ pub fn put_fixups(
     Ok(())
 }
 
-/// The entries of imports whose names begin behind one zero byte have room for their numbers.
+/// The entries of imports whose names begin after one zero byte have room for their numbers.
 fn entries_fit(names: &[Name]) -> bool
     ensures { result ≡ all_have_room (entries 1 names.now) }
 {

@@ -62,7 +62,7 @@ fn name_at(part: &[u8], place: usize, at: usize, text: &[u8]) -> Result<usize, F
     Ok(len)
 }
 
-/// The names that the entries from `entries` on tell, at the front of the text, and how many bytes stand behind them.
+/// The names that the entries from `entries` on tell, at the front of the text, and how many bytes stand after them.
 pub(crate) fn read_names(
     alloc: Global,
     part: &[u8],

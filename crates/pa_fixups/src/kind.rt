@@ -16,7 +16,7 @@ pub enum FixKind {
     Rebase { target: u64, high8: u8 },
     /// The address of the import `ordinal`, counted from 0, plus `addend`.
     Bind { ordinal: u16, addend: i32 },
-    /// The address `target` bytes behind the image's base, signed.
+    /// The address `target` bytes after the image's base, signed.
     AuthRebase { target: u32, sig: Sig },
     /// The address of the import `ordinal`, signed.
     AuthBind { ordinal: u16, sig: Sig },

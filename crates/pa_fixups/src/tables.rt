@@ -117,7 +117,7 @@ pub(crate) fn check_starts(part: &[u8], at: DataAt) -> Result<(), Flaw>
     check(part, ImageRule::F1, 32, end <= len)
 }
 
-/// The fields of the header and before the starts have their values, and the parts behind them lie inside.
+/// The fields of the header and before the starts have their values, and the parts after them lie inside.
 #[tactic(auto, unfolding(crate::specs::Fixups::table_checks))]
 pub(crate) fn check_tables(part: &[u8], at: DataAt, count: u32) -> Result<(), Flaw>
     requires { 78 ≤ length part.now }

@@ -19,7 +19,7 @@ fn put_zeros(page: &mut [u8], at: usize)
     page[at..at + 8].copy_from_slice(&[0; 8]);
 }
 
-/// The link from a slot to the first of those behind it.
+/// The link from a slot to the first of those after it.
 fn link(fix: &Fix, behind: &[Fix]) -> u16
     requires rising { Rising fix.now behind.now }
     requires small { link_to fix.now behind.now < 2 ^ 11 }

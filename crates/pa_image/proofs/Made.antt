@@ -187,7 +187,7 @@ image_made image slots starts bytes legal ls lt fits held e =
       };
     }
 
--- ---- what is put, one behind the other
+-- ---- what is put, one after the other
 
 pub six_put : (o0 o1 o2 o3 o4 o5 o6 a b c d e f : List ℕ) → o1 ≡ o0 ++ a → o2 ≡ o1 ++ b → o3 ≡ o2 ++ c → o4 ≡ o3 ++ d → o5 ≡ o4 ++ e → o6 ≡ o5 ++ f → o6 ≡ o0 ++ concat (a ∷ b ∷ c ∷ d ∷ e ∷ f ∷ [])
 six_put o0 o1 o2 o3 o4 o5 o6 a b c d e f p q r s t u = rw (u, t, s, r, q, p) (simp (append_assoc, append-nil))

@@ -112,7 +112,7 @@ pub fixups_first : (h : Header) (p : Places) (bytes : List ℕ) (f : Flaw) → m
 unfolding parts_flaw
 fixups_first h p bytes f e = then_some f _ _ e
 
--- behind fixups that have no flaw
+-- after fixups that have no flaw
 pub behind_fixups : (h : Header) (p : Places) (bytes starts : List ℕ) (imports : List (List ℕ)) → IsPart (data_at h.role p) (fixups_with starts imports) (part p.linkedit p.fixups_end bytes)
     → parts_flaw h p bytes ≡ (slots_flaw (slots_at h p (length imports)) starts (part p.got p.linkedit bytes) then symbols_flaw (text_at h) (symbols_at p) (part p.symbols p.symbols_end bytes) (part p.strings p.end bytes))
 unfolding parts_flaw

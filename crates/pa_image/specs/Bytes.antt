@@ -56,7 +56,7 @@ header_of image = record {
   strings = 1 + length (ended (names_of image.marks));
 }
 
--- what slots are checked against, in an image with so many imports
+-- what slots are checked against, in an image with n imports
 abbrev pub slots_at : Header → Places → ℕ → SlotsAt
 slots_at h p imports = record {
   place = p.got;
@@ -81,7 +81,7 @@ part low high bytes = take (high - low) (drop low bytes)
 abbrev pub words_bytes : List ℕ → List ℕ
 words_bytes words = spelled (map four words)
 
--- behind a header with these places the bytes stand for the image
+-- after a header with these places the bytes stand for the image
 pub record Stands (image : Image) (h : Header) (p : Places) (bytes : List ℕ) : Type 0 where
   pub role : image.role ≡ h.role
   pub text_size : 4 * length image.text ≡ h.text
@@ -97,7 +97,7 @@ pub record Stands (image : Image) (h : Header) (p : Places) (bytes : List ℕ) :
   pub slots : AreSlots (slots_at h p (length image.imports)) starts (slots_with image.cells image.fixes) (part p.got p.linkedit bytes)
   pub marks : AreMarks (text_at h) image.marks (part p.symbols p.symbols_end bytes) (part p.strings p.end bytes)
 
--- each field of the header stands at its place with its value, each part behind it stands at its place, and all else is zero
+-- each field of the header stands at its place with its value, each part after it stands at its place, and all else is zero
 pub record IsImage (image : Image) (bytes : List ℕ) : Type 0 where
   pub header : IsHeader (header_of image) bytes
   pub parts : Stands image (header_of image) (places_of (header_of image)) bytes

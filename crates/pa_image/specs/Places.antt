@@ -1,4 +1,4 @@
--- Where things stand once images are loaded: functions, the places behind calls, the slots of imports and the words of code.
+-- Where things stand once images are loaded: functions, the places after calls, the slots of imports and the words of code.
 use Rattle.std.specs.Prelude.{ℕ, zero, suc, ◌+◌, ◌*◌, ◌/◌, Bool, true, false, ◌==◌, if◌then◌else◌, List, [], ◌∷◌, ◌++◌, map, filter, Option, Some, None}
 use Rattle.std.specs.Option.{option_map_or, option_or}
 use Rattle.std.specs.Str.{bytes_eq}
@@ -19,7 +19,7 @@ use Rattle.pa_image.specs.Bytes.{header_of}
 
 -- ---- where an image lies
 
--- the address of the first byte of an image that is moved so many pages up from where its file says
+-- the address of the first byte of an image that is moved n pages up from where its file says
 abbrev pub base_at : Role → (slide : ℕ) → ℕ
 base_at role slide = base_of role + 0x4000 * slide
 
@@ -58,7 +58,7 @@ abbrev pub entry : List Mapped → (name : List ℕ) → Option ℕ
 entry [] name = None
 entry (m ∷ ms) name = option_or (function_at m.base m.image.marks name) (entry ms name)
 
--- ---- behind calls
+-- ---- after calls
 
 abbrev pub branch_calls : BranchOp → Bool
 branch_calls B = false
@@ -74,7 +74,7 @@ authenticated_branch_calls Braa = false
 authenticated_branch_calls Blraa = true
 authenticated_branch_calls Blrab = true
 
--- BL, BLR, BLRAA, BLRAB and BLRAAZ: an instruction that leaves the place behind it in x30
+-- BL, BLR, BLRAA, BLRAB and BLRAAZ: an instruction that leaves the place after it in x30
 abbrev pub is_call : Instr → Bool
 is_call (instr.Branch op words) = branch_calls op
 is_call (instr.BranchRegister op rn) = register_branch_calls op
@@ -85,7 +85,7 @@ is_call other = false
 abbrev pub calls : (word : ℕ) → Bool
 calls word = option_map_or is_call (decoded word) false
 
--- the places behind calls in words from a place on
+-- the places after calls in words from a place on
 abbrev pub afters_from : ℕ → List ℕ → List ℕ
 afters_from at [] = []
 afters_from at (word ∷ words) = if calls word then (at + 4) ∷ afters_from (at + 4) words else afters_from (at + 4) words

@@ -25,7 +25,7 @@ fixups_in h p bytes = fixups.taken (data_at h.role p) (part p.linkedit p.fixups_
 abbrev pub symbols_at : Places → SymbolsAt
 symbols_at p = record { symbols = p.symbols; strings = p.strings }
 
--- behind the header: the fixups, the slots, and the symbols with their strings
+-- after the header: the fixups, the slots, and the symbols with their strings
 unfoldable pub parts_flaw : Header → Places → List ℕ → Option Flaw
 parts_flaw h p bytes =
     let read = fixups_in h p bytes in

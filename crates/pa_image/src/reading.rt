@@ -44,7 +44,7 @@ fn fixups_of(
     }
 }
 
-/// What stands behind the header of a file that has this one, or the first flaw.
+/// What stands after the header of a file that has this one, or the first flaw.
 fn read_parts(
     alloc: Global,
     bytes: &[u8],

@@ -98,7 +98,7 @@ begins name rest h =
 ended_first : (name : List ℕ) (names : List (List ℕ)) (rest : List ℕ) → ended (name ∷ names) ++ rest ≡ name ++ (0 ∷ (ended names ++ rest))
 ended_first name names rest = append_assoc name (0 ∷ ended names) rest
 
--- what the first names of a text are, and what stands behind them
+-- what the first names of a text are, and what stands after them
 pub record Cuts (text : List ℕ) (names : List (List ℕ)) (rest : List ℕ) : Type 0 where
   pub ends : HaveEnds (length names) text
   pub names_are : cut (length names) text ≡ names

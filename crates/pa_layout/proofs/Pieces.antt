@@ -1,4 +1,4 @@
--- Parts that stand one behind the other are the bytes.
+-- Parts that stand one after the other are the bytes.
 use Rattle.std.proofs.Common.{◌≡◌, ℕ, ◌+◌, ◌≤◌, List, [], ◌∷◌, ◌++◌, length, refl, sym, ap, subst, ◌∙◌, append_assoc, arith}
 use Rattle.std.proofs.lemmas.List.{length-append}
 use Rattle.pa_layout.specs.Fields.{IsAt}
@@ -37,7 +37,7 @@ pieces-stand bytes at [] end le c a = IsAt-nil bytes at (omega arith)
 pieces-stand bytes at (p ∷ ps) end le c a =
     IsAt-append bytes at p.part (joined ps) (at + length p.part) refl (subst (λ (n : ℕ). IsAt bytes n p.part) c.0 a.0) (pieces-stand bytes (at + length p.part) ps end le c.1 a.1)
 
--- the bytes are the parts, one behind the other
+-- the bytes are the parts, one after the other
 pub pieces-whole : (bytes : List ℕ) (ps : List Piece) → Chained 0 ps (length bytes) → AllAt bytes ps → bytes ≡ joined ps
 pieces-whole bytes ps c a =
     let e = length-joined 0 ps (length bytes) c in
@@ -49,7 +49,7 @@ pieces-apart bytes at [] end c h = tt
 pieces-apart bytes at (p ∷ ps) end c h =
     (subst (λ (n : ℕ). IsAt bytes n p.part) (sym c.0) (IsAt-first bytes at p.part (joined ps) h), pieces-apart bytes (at + length p.part) ps end c.1 (IsAt-second bytes at p.part (joined ps) h))
 
--- ---- pieces behind pieces
+-- ---- pieces after pieces
 
 pub Chained-append : (at : ℕ) (ps : List Piece) (mid : ℕ) (qs : List Piece) (end : ℕ) → Chained at ps mid → Chained mid qs end → Chained at (ps ++ qs) end
 Chained-append at [] mid qs end c d = subst (λ (n : ℕ). Chained n qs end) (sym c) d

@@ -11,7 +11,7 @@ bytes_in Four = 4
 bytes_in Eight = 8
 bytes_in Sixteen = 16
 
--- the number in the n bytes from a place on; a byte behind the end counts 0
+-- the number in the n bytes from a place on; a byte after the end counts 0
 abbrev pub number : ℕ → ℕ → List ℕ → ℕ
 number n at bytes = little_number n (drop at bytes)
 
@@ -48,7 +48,7 @@ abbrev pub stands : FileField → ℕ → List ℕ → Bool
 stands field at bytes =
     nat_le (at + bytes_in field.width) (length bytes) && ((number (bytes_in field.width) at bytes == field.value) && field.allowed)
 
--- the place of the first field that doesn't stand where it should, the fields standing behind one another from a place on
+-- the place of the first field that doesn't stand where it should, the fields standing one after another from a place on
 abbrev pub wrong_from : ℕ → List FileField → List ℕ → Option ℕ
 wrong_from at [] bytes = None
 wrong_from at (field ∷ fields) bytes =

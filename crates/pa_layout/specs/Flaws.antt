@@ -27,7 +27,7 @@ None then next = next
 -- ---- checks as data
 
 pub data Check : Type 0 where
-  -- the fields stand behind one another from the place on
+  -- the fields stand one after another from the place on
   Fields : ImageRule → ℕ → List FileField → Check
   -- the field stands at the second place; the first place is the one to tell
   Told : ImageRule → ℕ → ℕ → FileField → Check

@@ -1,4 +1,4 @@
--- Names one behind the other, each with a zero byte behind it.
+-- Names one after the other, each with a zero byte after it.
 use Rattle.std.specs.Prelude.{ℕ, zero, suc, Bool, true, not, ◌&&◌, ◌==◌, nat_lt, List, [], ◌∷◌, ◌++◌, length}
 use Rattle.std.specs.List.{position_or_len, before_first, after_first}
 
@@ -34,7 +34,7 @@ abbrev pub cut : ℕ → List ℕ → List (List ℕ)
 cut zero text = []
 cut (suc n) text = before_first is_zero text ∷ cut n (after_first is_zero text)
 
--- what stands behind them
+-- what stands after them
 abbrev pub behind : ℕ → List ℕ → List ℕ
 behind zero text = text
 behind (suc n) text = behind n (after_first is_zero text)

@@ -36,7 +36,7 @@ pub fn check(bytes: &[u8], rule: ImageRule, place: u64, holds: bool) -> Result<(
     }
 }
 
-/// The rule is broken at the first field that doesn't stand in the bytes, where they stand behind one another from `start`
+/// The rule is broken at the first field that doesn't stand in the bytes, where they stand one after another from `start`
 /// on.
 #[tactic(auto, unfolding(crate::specs::Flaws::flaw_of))]
 pub fn check_fields(

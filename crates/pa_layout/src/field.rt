@@ -103,7 +103,7 @@ impl FileField {
     }
 }
 
-/// The place of the first field that doesn't stand in the bytes, where the fields stand behind one another from `start` on.
+/// The place of the first field that doesn't stand in the bytes, where the fields stand one after another from `start` on.
 pub fn first_wrong(bytes: &[u8], start: usize, fields: &[FileField]) -> Option<usize>
     requires { start ≤ length bytes.now }
     ensures { result ≡ spec.wrong_from start fields.now bytes.now }
@@ -122,7 +122,7 @@ pub fn first_wrong(bytes: &[u8], start: usize, fields: &[FileField]) -> Option<u
     None
 }
 
-/// Appends the bytes of the fields. After want of memory the bytes are as before, but for a front of the new ones.
+/// Appends the bytes of the fields. Out of memory, the bytes are as before, but for a front of the new ones.
 pub fn put_fields(out: &mut Vec<u8>, fields: &[FileField]) -> Result<(), AllocError>
     requires { spec.AllFit fields.now }
     ensures { OnOk result (out.new.items ≡ out.old.items ++ spec.spelled fields.now) }

@@ -23,7 +23,7 @@ pub fn first_nonzero(bytes: &[u8], low: usize, high: usize) -> Option<usize>
     None
 }
 
-/// Appends `count` zeros. After want of memory the bytes are as before, but for some of the zeros.
+/// Appends `count` zeros. Out of memory, the bytes are as before, but for some of the zeros.
 pub fn put_zeros(out: &mut Vec<u8>, count: usize) -> Result<(), AllocError>
     ensures { OnOk result (out.new.items ≡ out.old.items ++ replicate count 0) }
 {

@@ -42,7 +42,7 @@ put_here at w bytes le lt =
     let a : drop at (put_at at (little_bytes 8 w) bytes) ≡ little_bytes 8 w ++ drop (at + length (little_bytes 8 w)) bytes = drop_at (take at bytes) (little_bytes 8 w ++ drop (at + length (little_bytes 8 w)) bytes) at (length-take-le at bytes le) in
     ap (little_number 8) a ∙ little_number-reads_back 8 w (drop (at + length (little_bytes 8 w)) bytes) lt
 
--- ---- slots one behind the other
+-- ---- slots one after the other
 
 -- each slot has its eight bytes, from a place on and before an end
 abbrev pub Spaced : (low len : ℕ) → List Fix → Type 0

@@ -22,7 +22,7 @@ use Rattle.pa_load.specs.Filling.{Filling, pointer, sig_of, stored, signed, slot
 use Rattle.pa_load.proofs.Going.{one_signed}
 use Rattle.pa_load.proofs.Signs.{IsLoadSign, SignsLow}
 
--- ---- logs behind one another
+-- ---- logs one after another
 
 or_assoc : (a b c : Bool) → (a || (b || c)) ≡ ((a || b) || c)
 or_assoc true b c = refl

@@ -17,7 +17,7 @@ abbrev pub AllBelow : (limit : ℕ) → List Region → Type 0
 AllBelow limit [] = Unit {0}
 AllBelow limit (region ∷ regions) = (region.base + length region.bytes ≤ limit) × AllBelow limit regions
 
--- the segments of these bytes, with zeros behind the last
+-- the segments of these bytes, with zeros after the last
 abbrev pub segments_of : Places → (bytes : List ℕ) → Segments
 segments_of p bytes = record {
   text = part 0 p.got bytes;
@@ -31,7 +31,7 @@ program_of code f main p =
     let file = segments_of p (bytes_of main) in
     record { text = file.text; contents = filled code f main.fixes file.contents; linkedit = file.linkedit }
 
--- segments that stand one behind the other from a base on, and end with their image's last page
+-- segments that stand one after the other from a base on, and end with their image's last page
 pub record Fits (base : ℕ) (p : Places) (segments : Segments) : Type 0 where
   pub order : Ordered p
   pub small : base + p.end < 2 ^ 60

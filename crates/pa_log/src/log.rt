@@ -46,7 +46,7 @@ impl Log {
         }
     }
 
-    /// Makes room for so many more entries at least. After want of memory the log is as before.
+    /// Makes room for n more entries at least. Out of memory, the log is as before.
     pub fn reserve(&mut self, events: u64) -> Result<(), Memory>
         ensures entries { self.new.entries ≡ self.old.entries }
         ensures ok { OnOk result (events ≤ self.new.spare) }

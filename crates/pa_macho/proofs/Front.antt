@@ -390,7 +390,7 @@ pub front_written : (h : Header) (s : Sizes) (p : Places) (before after : List �
 unfolding front_of
 front_written h s p before after eb ea ep es = rw (ea, eb, ep, es) refl
 
--- parts that are put one behind the other
+-- parts that are put one after the other
 pub parts_put : (o0 o1 o2 o3 o4 o5 o6 o7 o8 o9 o10 o11 o12 o13 o14 o15 a1 a2 a3 a4 a5 a6 a7 a8 a9 a10 a11 a12 a13 a14 a15 : List ℕ)
     → o1 ≡ o0 ++ a1 → o2 ≡ o1 ++ a2 → o3 ≡ o2 ++ a3 → o4 ≡ o3 ++ a4 → o5 ≡ o4 ++ a5 → o6 ≡ o5 ++ a6 → o7 ≡ o6 ++ a7 → o8 ≡ o7 ++ a8
     → o9 ≡ o8 ++ a9 → o10 ≡ o9 ++ a10 → o11 ≡ o10 ++ a11 → o12 ≡ o11 ++ a12 → o13 ≡ o12 ++ a13 → o14 ≡ o13 ++ a14 → o15 ≡ o14 ++ a15

@@ -119,7 +119,7 @@ pub record AreSmall (s : Sizes) : Type 0 where
 abbrev pub page_count : Places → ℕ
 page_count p = (p.linkedit - p.got) / page_size
 
--- the fixups have a start of two bytes for each page behind their first 78 bytes, and then imports at a multiple of 4: the
+-- the fixups have a start of two bytes for each page after their first 78 bytes, and then imports at a multiple of 4: the
 -- padding between, as far as it lies inside the fixups
 abbrev pub padding_low : Places → ℕ
 padding_low p = min p.fixups_end (p.linkedit + (78 + 2 * page_count p))
@@ -142,7 +142,7 @@ abbrev pub flags : Role → ℕ
 flags Main = mh_noundefs + mh_dyldlink + mh_twolevel + mh_pie
 flags Library = mh_noundefs + mh_dyldlink + mh_twolevel
 
--- how many load commands there are, and where they end; they begin behind mach_header_64 (proofs/Facts.antt ties both to the list below)
+-- how many load commands there are, and where they end; they begin after mach_header_64 (proofs/Facts.antt ties both to the list below)
 abbrev pub command_count : Role → ℕ
 command_count Main = 8
 command_count Library = 6
@@ -151,7 +151,7 @@ abbrev pub commands_end : Role → ℕ
 commands_end Main = 824
 commands_end Library = 728
 
--- where the command of __TEXT stands: a program has that of __PAGEZERO in front of it
+-- where the command of __TEXT stands: a program has that of __PAGEZERO before it
 abbrev pub text_at : Role → ℕ
 text_at Main = mach_header_64 + segment_command_64
 text_at Library = mach_header_64
@@ -244,9 +244,9 @@ counts_of role len =
 unfoldable pub flags_of : Role → List FileField
 flags_of role = four (flags role) ∷ four 0 ∷ []
 
--- ---- commands, each behind its number and its size
+-- ---- commands, each after its number and its size
 
--- a name in 16 bytes, with zeros behind it
+-- a name in 16 bytes, with zeros after it
 abbrev pub text_field : List ℕ → FileField
 text_field text = sixteen (text_number text)
 

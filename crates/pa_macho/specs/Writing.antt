@@ -71,7 +71,7 @@ unfoldable pub front_of : Header → List ℕ
 front_of h = front_with h (places_of h)
 
 -- these bytes are the front of each file with that header: a file has the header exactly where it begins with them, has
--- zeros between its parts and ends behind the last of them
+-- zeros between its parts and ends after the last of them
 pub record IsFront (h : Header) (front : List ℕ) : Type 0 where
   pub bytes_are : front ≡ front_of h
   pub length_is : length front ≡ fields.front_size

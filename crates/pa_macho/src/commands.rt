@@ -40,7 +40,7 @@ pub(crate) enum SectionName {
     Cells,
 }
 
-/// What the command of a segment says behind its number and its size (`segment_command_64`).
+/// What the command of a segment says after its number and its size (`segment_command_64`).
 #[derive(Clone, Copy)]
 pub(crate) struct Segment {
     pub name: FileField,
@@ -128,7 +128,7 @@ pub(crate) const SYMBOLS_AT: u32 = FIXUPS_AT + FIXUPS_SHAPE.size;
 
 pub(crate) const ENTRY_AT: u32 = SYMBOLS_AT + SYMBOLS_SHAPE.size;
 
-/// Where the command of `__TEXT` stands: a program has that of `__PAGEZERO` in front of it.
+/// Where the command of `__TEXT` stands: a program has that of `__PAGEZERO` before it.
 pub(crate) fn text_at(role: Role) -> u32
     ensures { result ≡ spec.text_at role }
 {
@@ -234,7 +234,7 @@ pub(crate) fn flag_fields(role: Role) -> [FileField; 2]
     [FileField::four(flags), FileField::four(0)]
 }
 
-/// A name as a field of 16 bytes, with zeros behind it.
+/// A name as a field of 16 bytes, with zeros after it.
 #[tactic(auto, using(crate::proofs::Names::number_of_text))]
 fn text_field(name: &[u8]) -> FileField
     requires some { 1 ≤ length name.now }

@@ -128,7 +128,7 @@ impl Places {
         (self.linkedit - self.got) / PAGE
     }
 
-    /// Where the padding behind the starts of the pages begins, or the fixups end.
+    /// Where the padding after the starts of the pages begins, or the fixups end.
     pub(crate) fn padding_low(&self) -> u128
         requires { Ordered self.now }
         ensures { result ≡ padding_low self.now }
@@ -136,7 +136,7 @@ impl Places {
         self.fixups_end.min(self.linkedit + (78 + 2 * self.pages()))
     }
 
-    /// Where the imports begin behind the padding, or the fixups end.
+    /// Where the imports begin after the padding, or the fixups end.
     pub(crate) fn padding_high(&self) -> u128
         requires { Ordered self.now }
         ensures { result ≡ padding_high self.now }

@@ -1,4 +1,4 @@
-//! What every layer shares: lists that contracts see as lists, want of memory, the shape of a refusal, bits and fields.
+//! What every layer shares: lists that contracts see as lists, out of memory, the shape of a refusal, bits and fields.
 #![tactic(auto)]
 
 mod bit_fields;

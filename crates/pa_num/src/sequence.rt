@@ -116,7 +116,7 @@ impl<T: Copy> Sequence<T> {
         Ok(Sequence { items })
     }
 
-    /// Appends a copy of these items. After want of memory the list is as before.
+    /// Appends a copy of these items. Out of memory, the list is as before.
     pub fn extend_from_slice(&mut self, more: &[T]) -> Result<(), AllocError>
         ensures ok { OnOk result (self.new ≡ self.old ++ more.now) }
         ensures err { OnErr result (self.new ≡ self.old) }

@@ -57,7 +57,7 @@ fn text(alloc: Global) -> Result<Words, Memory>
     Ok(words)
 }
 
-/// A function that other images see, so many words behind the beginning.
+/// A function that other images see, n words after the beginning.
 fn public_mark(alloc: Global, name: &[u8], at: u32) -> Result<Mark, Memory>
     ensures { IfOk result (λ mark. mark ≡ spec.public_mark name.now at) }
 {

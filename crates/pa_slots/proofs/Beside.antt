@@ -129,7 +129,7 @@ beside_is at starts slots bytes k s o =
     let same : k ≡ page_size * 0 + k = omega arith in
     pages_outside at 0 k starts slots.fixes bytes (plain_of at (length starts) slots.cells) (starts_zero slots.fixes) s.rising s.pages (subst (λ (n : ℕ). Outside n slots.fixes) same o)
 
--- between the sections, and behind them
+-- between the sections, and after them
 pub gap_zeros : (at : SlotsAt) (starts : List ℕ) (slots : Slots) (bytes : List ℕ) → cells_from at ≤ length bytes → SlotsFit at slots → AreSlots at starts slots bytes → IsAt bytes at.got (replicate (cells_from at - at.got) 0)
 gap_zeros at starts slots bytes le f s =
     zeros-stand at.got (cells_from at - at.got) bytes (omega arith)

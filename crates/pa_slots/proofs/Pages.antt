@@ -1,4 +1,4 @@
--- The pages of __DATA, one behind the other.
+-- The pages of __DATA, one after the other.
 use Rattle.std.proofs.Common.{replicate, ◌≡◌, ℕ, zero, suc, ◌+◌, ◌-◌, ◌*◌, ◌≤◌, ◌<◌, Bool, true, false, cond, eqb, ltb, List, [], ◌∷◌, ◌++◌, length, take, drop, get_or, Option, Some, None, refl, sym, ap, subst, ◌∙◌, arith, map}
 use Rattle.std.proofs.lemmas.Bool.{eqb-true, eqb-false, eq-eqb, ne_eqb, ltb-true, lt-ltb, le-ltb, ltb-false}
 use Rattle.std.proofs.lemmas.List.{length-take, length-take-le, length-drop, length-append, take_at, drop_at, take-append-drop, get_or-drop, nil_from_length}
@@ -61,7 +61,7 @@ of_in_all : (i : ℕ) (fixes : List Fix) → map (of_page i) (map (in_page i) fi
 of_in_all i [] = refl
 of_in_all i (fix ∷ fixes) = let a = in_and_of i fix in let b = of_in_all i fixes in cc
 
--- the first slot stands at a place or behind it
+-- the first slot stands at a place or after it
 abbrev pub StartsAt : ℕ → List Fix → Type 0
 StartsAt low [] = Unit {0}
 StartsAt low (fix ∷ fixes) = low ≤ fix.at
@@ -75,7 +75,7 @@ take_before_as : (t : Bool) (limit : ℕ) (fix : Fix) (fixes : List Fix) → (ta
 take_before_as true limit fix fixes h = (ap (λ (l : List Fix). fix ∷ l) h.0, h.1)
 take_before_as false limit fix fixes h = (refl, refl)
 
--- slots before a place and from it on are a front and what is behind it
+-- slots before a place and from it on are a front and what is after it
 pub take_before : (limit : ℕ) (fixes : List Fix) → (take (length (before limit fixes)) fixes ≡ before limit fixes) × (drop (length (before limit fixes)) fixes ≡ from limit fixes)
 take_before limit [] = (refl, refl)
 take_before limit (fix ∷ fixes) = take_before_as (ltb fix.at limit) limit fix fixes (take_before limit fixes)
@@ -229,7 +229,7 @@ pub next_rising : (fix : Fix) (fixes : List Fix) → Rising fix fixes → AreRis
 next_rising fix [] r = tt
 next_rising fix (next ∷ fixes) r = r.1
 
--- what is cut off stands where the page begins, and what is left rises and stands behind the page
+-- what is cut off stands where the page begins, and what is left rises and stands after the page
 pub record CutOff (i : ℕ) (fixes : List Fix) : Type 0 where
   pub whole : map (in_page i) (page_slots i fixes) ++ later_slots i fixes ≡ fixes
   pub rising : AreRising (later_slots i fixes)

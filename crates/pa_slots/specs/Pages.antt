@@ -35,7 +35,7 @@ cells_from at = up16 at.got
 abbrev pub in_page : ℕ → Fix → Fix
 in_page i fix = record { at = page_size * i + fix.at; kind = fix.kind }
 
--- the slots before a place, and those from it on, of slots that stand one behind the other
+-- the slots before a place, and those from it on, of slots that stand one after the other
 abbrev pub before : ℕ → List Fix → List Fix
 before limit [] = []
 before limit (fix ∷ fixes) = if nat_lt fix.at limit then fix ∷ before limit fixes else []
@@ -59,7 +59,7 @@ abbrev pub Below : ℕ → List Fix → Type 0
 Below limit [] = Unit {0}
 Below limit (fix ∷ fixes) = (fix.at < limit) × Below limit fixes
 
--- the slots stand one behind the other
+-- the slots stand one after the other
 abbrev pub AreRising : List Fix → Type 0
 AreRising [] = Unit {0}
 AreRising (fix ∷ fixes) = Rising fix fixes

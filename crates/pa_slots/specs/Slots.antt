@@ -9,7 +9,7 @@ use Rattle.pa_slots.specs.declared.slots.Slots.{Slots}
 use Rattle.pa_slots.specs.declared.slots.SlotsAt.{SlotsAt}
 use Rattle.pa_slots.specs.Pages.{page_size, cells_from, AreRising, ArePages, pages_flaw, slots_in, plain_in}
 
--- __auth_got and what is behind it up to __data, __data, and what is behind it up to the segment's end: beside the slots all
+-- __auth_got and what is after it up to __data, __data, and what is after it up to the segment's end: beside the slots all
 -- but __data is zero
 unfoldable pub plain_of : SlotsAt → (count : ℕ) → List ℕ → List ℕ
 plain_of at count cells =

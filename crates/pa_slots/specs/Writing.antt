@@ -24,7 +24,7 @@ abbrev pub EachFits : SlotsAt → List ℕ → List Fix → Type 0
 EachFits at cells [] = Unit {0}
 EachFits at cells (fix ∷ fixes) = SlotFits at cells fix × EachFits at cells fixes
 
--- __data has its size, and the slots stand one behind the other where they may
+-- __data has its size, and the slots stand one after the other where they may
 pub record SlotsFit (at : SlotsAt) (slots : Slots) : Type 0 where
   pub cells : length slots.cells ≡ at.cells
   pub rising : AreRising slots.fixes

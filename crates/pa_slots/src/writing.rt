@@ -173,7 +173,7 @@ fn plain(alloc: Global, at: &SlotsAt, cells: &[u8], pages: u32) -> Result<Vec<u8
     Ok(bytes)
 }
 
-/// The bytes of `__DATA` of so many pages that hold these bytes of `__data` and these slots, and the starts of the pages.
+/// The bytes of `__DATA` of n pages that hold these bytes of `__data` and these slots, and the starts of the pages.
 pub fn write_slots(
     alloc: Global,
     at: &SlotsAt,

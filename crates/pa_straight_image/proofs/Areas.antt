@@ -58,6 +58,6 @@ area_fetched memory from (word ∷ words) h = (
 pub word_of-first : (area : Area) (areas : List Area) (at w : ℕ) → word_from area.from area.words at ≡ Some w → word_of (area ∷ areas) at ≡ Some w
 word_of-first area areas at w e = ap (λ x. option_or x (word_of areas at)) e
 
--- behind an area the words are those of the others
+-- after an area the words are those of the others
 pub word_of-behind : (area : Area) (areas : List Area) (at w : ℕ) → area.from + 4 * length area.words ≤ at → word_of areas at ≡ Some w → word_of (area ∷ areas) at ≡ Some w
 word_of-behind area areas at w h e = ap (λ x. option_or x (word_of areas at)) (word_from-behind area.from area.words at h) ∙ e

@@ -70,7 +70,7 @@ base_of_image s slide = refl
 target : ℕ
 target = 0x180000400
 
--- the ways of a program that prints so often, under a slide
+-- the ways of a program that prints n times, under a slide
 ways : (prints slide : ℕ) → prints ≤ 1000 → slide < 2 ^ 16 → Ways
 ways prints slide few low = record {
   stub = 0x100000000 + 0x4000 * slide + stub_place prints;

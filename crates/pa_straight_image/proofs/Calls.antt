@@ -120,7 +120,7 @@ call_runs code got m trail ready w through signed gap n behind fits low at (c0, 
         (λ key modifier r h. is_known-more _ _ key modifier r (is_known-more _ _ key modifier r (is_known-more _ _ key modifier r (is_known-more _ _ key modifier r (is_known-more _ _ key modifier r h)))))
         (omega arith) refl refl refl
 
--- ---- one part behind another
+-- ---- one part after another
 
 pub printed-then : (code : Code) (got : List ℕ) (n k : ℕ) (m : Machine) (trail : List Place) (shown more : List Shown) (bytes others : List ℕ) (place last : ℕ) (first : Printed code got n m trail shown bytes place)
     → Printed code got k first.later first.longer more others last → Printed code got (n + k) m trail (more ++ shown) (bytes ++ others) last

@@ -49,7 +49,7 @@ length-text s =
 abbrev made : (text stubs got fixups : ℕ) → Header
 made text stubs got fixups = record { role = Main; text = text; stubs = stubs; consts = 0; got = got; cells = 0; fixups = fixups; symbols = 16; strings = 7 }
 
--- of a program that prints so often
+-- of a program that prints n times
 abbrev pub header_with : ℕ → Header
 header_with zero = made 44 0 0 81
 header_with (suc n) = made (12 * suc n + 44) 16 8 94

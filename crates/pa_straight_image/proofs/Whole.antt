@@ -166,7 +166,7 @@ pub length-calls : (gap : ℕ) (ns : List ℕ) → length (calls gap ns) ≡ 3 *
 length-calls gap [] = refl
 length-calls gap (n ∷ ns) = let more = length-calls gap ns in omega arith
 
--- a word saved at the stack pointer, and another behind it
+-- a word saved at the stack pointer, and another after it
 abbrev saved : List Region → ℕ → ℕ → ℕ → List Region
 saved memory at v w = store 8 (store 8 memory at v) (at + 8) w
 

@@ -27,7 +27,7 @@ prologue = Stack Pacibsp ∷ SumImmediate Sub 31 31 16 false ∷ LoadStorePair S
 abbrev pub in_x0 : ℕ → List Instr
 in_x0 n = MoveWide Movz 0 (n % 65536) 0 ∷ MoveWide Movk 0 (n / 65536) 1 ∷ []
 
--- a call of the stub with the number n: behind calls come behind it, and gap words lie between the text and the stub
+-- a call of the stub with the number n: `behind` calls come after it, and gap words lie between the text and the stub
 abbrev pub call : (gap n behind : ℕ) → List Instr
 call gap n behind = in_x0 n ++ Branch Bl (pos (3 * behind + 6 + gap)) ∷ []
 
@@ -49,7 +49,7 @@ text s = start ++ (prologue ++ (calls (gap_behind (length s.prints)) s.prints ++
 -- ---- the stub
 
 -- authenticates the pointer in a slot under the slot's address and goes there; the slot begins a page, n pages of 4,096 bytes
--- behind the stub's own
+-- after the stub's own
 abbrev pub stub : ℕ → List Instr
 stub pages =
     Adrp 17 (pos pages) ∷ SumImmediate Add 17 17 0 false ∷ LoadStore Ldr 16 17 0 ∷ BranchAuthenticated Braa 16 17 ∷ []
@@ -59,11 +59,11 @@ stub pages =
 abbrev pub text_place : ℕ
 text_place = 0x400
 
--- behind `start`
+-- after `start`
 abbrev pub main_place : ℕ
 main_place = text_place + 12
 
--- behind the text of n calls, at a multiple of 16
+-- after the text of n calls, at a multiple of 16
 abbrev pub stub_place : ℕ → ℕ
 stub_place prints = text_place + 12 * prints + 44 + 4 * gap_behind prints
 

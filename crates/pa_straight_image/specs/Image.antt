@@ -16,7 +16,7 @@ abbrev pub once : {X : Type 0} → (prints : List ℕ) → List X → List X
 once [] xs = []
 once (n ∷ ns) xs = xs
 
--- the function behind `start`
+-- the function after `start`
 abbrev pub main_mark : Mark
 main_mark = record { name = codes "_main"; at = 3; public = true }
 

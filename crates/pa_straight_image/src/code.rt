@@ -29,7 +29,7 @@ pub fn text(alloc: Global, straight: &Straight) -> Result<Words, Memory>
     Ok(words)
 }
 
-/// The words of the stub of `_putchar` behind the text of `prints` calls.
+/// The words of the stub of `_putchar` after the text of `prints` calls.
 pub fn stub_words(alloc: Global, prints: usize) -> Result<Words, Memory>
     requires { prints ≤ 1000 }
     ensures { IfOk result (λ words. words ≡ map encoded (stub (pages_between prints))) }
@@ -129,7 +129,7 @@ fn in_x0(number: u32) -> [Instr; 2]
     ]
 }
 
-/// A call of the stub, with `behind` calls behind it and `gap` words between the text and the stub.
+/// A call of the stub, with `behind` calls after it and `gap` words between the text and the stub.
 fn call(gap: usize, number: u32, behind: usize) -> [Instr; 3]
     requires behind { behind < 1000 }
     requires gap { gap < 4 }

@@ -84,7 +84,7 @@ fn import_all(alloc: Global, straight: &Straight) -> Result<Imported, Memory>
     }
 }
 
-/// The one function of the program, behind `start`.
+/// The one function of the program, after `start`.
 fn marks(alloc: Global) -> Result<Marks, Memory>
     ensures { IfOk result (λ marks. marks ≡ main_mark ∷ []) }
 {

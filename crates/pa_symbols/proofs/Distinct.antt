@@ -36,7 +36,7 @@ covers_on key before mark old new c kept put = λ name h.
     subst (λ (n : Text). has_bits new (hash_of key n) ≡ true) (sym same) (put parts.0))
     (sym (list_any-append (λ (m : Mark). m.public && bytes_eq name m.name) before (mark ∷ [])) ∙ h)
 
--- ---- public names of marks behind marks
+-- ---- public names of marks after marks
 
 pub public_names-append : (xs ys : List Mark) → public_names (xs ++ ys) ≡ public_names xs ++ public_names ys
 public_names-append xs ys =

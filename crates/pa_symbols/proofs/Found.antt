@@ -1,4 +1,4 @@
--- Entries that stand, with strings that end behind the last name, are those of the marks that they tell.
+-- Entries that stand, with strings that end after the last name, are those of the marks that they tell.
 use Rattle.std.proofs.Common.{◌≡◌, ◌≢◌, ℕ, zero, suc, ◌+◌, ◌-◌, ◌*◌, ◌/◌, ◌%◌, ◌≤◌, ◌<◌, eqb, leb, ltb, Bool, true, false, not, ◌&&◌, ◌||◌, List, [], ◌∷◌, ◌++◌, length, drop, get_or, map, None, refl, sym, ap, subst, inl, inr, ◌∙◌, arith, drop-cons}
 use Rattle.std.specs.Prelude.{All}
 use Rattle.std.specs.List.{IsDistinct, AllByRecursion, before_first, after_first}
@@ -196,7 +196,7 @@ others_step true text symbols strings j k n e lt p h rest =
     rw (public_here (mark_in text symbols strings k) (marks_from text symbols strings (suc k) n) e) (other_name symbols strings k j (name_in symbols strings k) (first_here text symbols strings k h e) lt p, rest)
 others_step false text symbols strings j k n e lt p h rest = rw (public_not_here (mark_in text symbols strings k) (marks_from text symbols strings (suc k) n) e) rest
 
--- the public names behind a public entry are others than its own
+-- the public names after a public entry are others than its own
 others_behind : (text : TextAt) (symbols strings : List ℕ) (j k n : ℕ) → j < k → is_public symbols j ≡ true → EachStands text symbols strings k n
     → AllByRecursion (λ name. bytes_eq (name_in symbols strings j) name ≡ false) (public_names (marks_from text symbols strings k n))
 others_behind text symbols strings j k zero lt p h = tt

@@ -44,7 +44,7 @@ tells symbols k place address mark marks p fit =
       address_is = ap (λ (at : ℕ). number 8 at symbols) eight ∙ v.1.1.1.0;
     }
 
--- the entries behind it
+-- the entries after it
 behind_entry : (symbols : List ℕ) (k place address : ℕ) (mark : Mark) (marks : List Mark) → IsAt symbols (16 * k) (spelled (entries place address (mark ∷ marks)))
     → IsAt symbols (16 * suc k) (spelled (entries (place + (length mark.name + 1)) address marks))
 behind_entry symbols k place address mark marks p =

@@ -93,7 +93,7 @@ all_stand (mark ∷ marks) text place least e =
       fit = AllFit-append (entry_of place text.address mark) (entries (place + (length mark.name + 1)) text.address marks) f.fit r.fit;
     }
 
--- the first is at the least word or behind it
+-- the first is at the least word or after it
 abbrev pub Begins : ℕ → List Mark → Type 0
 Begins least [] = Unit {0}
 Begins least (mark ∷ marks) = least ≤ mark.at

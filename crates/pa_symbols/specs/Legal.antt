@@ -21,7 +21,7 @@ mark_stands text place least mark =
     (nat_le least mark.at && nat_lt mark.at text.words)
     && ((not (length mark.name == 0) && is_name mark.name) && all_have_room (entry_of place text.address mark))
 
--- each of them does, with its name behind that of the mark before
+-- each of them does, with its name after that of the mark before
 abbrev pub marks_stand : TextAt → (place least : ℕ) → List Mark → Bool
 marks_stand text place least [] = true
 marks_stand text place least (mark ∷ marks) =

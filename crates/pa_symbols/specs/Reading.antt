@@ -66,7 +66,7 @@ marks_from text symbols strings k (suc n) = mark_in text symbols strings k ∷ m
 
 -- ---- what holds at entry k
 
--- the first name begins behind one byte, and each other one behind the zero byte of the name before
+-- the first name begins after one byte, and each other one after the zero byte of the name before
 abbrev pub due_place : List ℕ → List ℕ → ℕ → ℕ
 due_place symbols strings zero = 1
 due_place symbols strings (suc k) = place_in symbols k + (name_length (text_in symbols strings k) + 1)
@@ -115,7 +115,7 @@ entry_checks text at symbols strings k zero = []
 entry_checks text at symbols strings k (suc n) =
     Holds H5 (at.symbols + 16 * k) (entry_stands text symbols strings k) ∷ entry_checks text at symbols strings (suc k) n
 
--- the strings begin with a zero byte, and end behind the last name's
+-- the strings begin with a zero byte, and end after the last name's
 abbrev pub strings_check : SymbolsAt → List ℕ → List ℕ → Check
 strings_check at symbols strings = Holds H5 at.strings
     ((slice_index strings 0 == 0) && (due_place symbols strings (count_in symbols) == length strings))

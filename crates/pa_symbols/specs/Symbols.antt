@@ -15,7 +15,7 @@ Text = List ℕ
 
 -- ---- the symbols
 
--- n_type and behind it n_sect: a place in a section, which other images see (N_SECT with N_EXT) or don't see (N_SECT), and
+-- n_type and after it n_sect: a place in a section, which other images see (N_SECT with N_EXT) or don't see (N_SECT), and
 -- section 1, which is __text
 abbrev pub kind_of : Bool → ℕ
 kind_of true = 0x0F + 256 * 1
@@ -25,7 +25,7 @@ kind_of false = 0x0E + 256 * 1
 abbrev pub entry_of : (place address : ℕ) → Mark → List FileField
 entry_of place address mark = four place ∷ two (kind_of mark.public) ∷ two 0 ∷ eight (address + 4 * mark.at) ∷ []
 
--- an entry for each mark, whose names begin behind one another from a place on; the code begins at the address
+-- an entry for each mark, whose names begin one after another from a place on; the code begins at the address
 abbrev pub entries : (place address : ℕ) → List Mark → List FileField
 entries place address [] = []
 entries place address (mark ∷ marks) = entry_of place address mark ++ entries (place + (length mark.name + 1)) address marks
@@ -42,7 +42,7 @@ public_names marks = names_of (filter (λ mark. mark.public) marks)
 abbrev pub symbols_of : TextAt → List Mark → List ℕ
 symbols_of text marks = spelled (entries 1 text.address marks)
 
--- a zero byte, and the names, each with a zero byte behind it
+-- a zero byte, and the names, each with a zero byte after it
 abbrev pub strings_of : List Mark → List ℕ
 strings_of marks = 0 ∷ ended (names_of marks)
 

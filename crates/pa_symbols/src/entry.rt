@@ -8,7 +8,7 @@ use pa_layout::{number_of_eight, number_of_four, number_of_two};
 /// The bytes of an entry.
 pub(crate) const ENTRY_SIZE: usize = 16;
 
-/// n_type and behind it n_sect of a name that other images see (N_SECT with N_EXT) in section 1, which is `__text`.
+/// n_type and after it n_sect of a name that other images see (N_SECT with N_EXT) in section 1, which is `__text`.
 pub(crate) const PUBLIC: u16 = 0x010f;
 
 /// The same of a name that no other image sees (N_SECT).

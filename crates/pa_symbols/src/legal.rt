@@ -30,7 +30,7 @@ fn mark_stands(mark: &Mark, text: TextAt, place: u128, least: u64) -> bool
         && all_fit(&entry_fields(mark, place, text.address))
 }
 
-/// Each mark stands behind the one before, and can be spelled.
+/// Each mark stands after the one before, and can be spelled.
 #[tactic(auto, using(crate::proofs::Placed::place_small))]
 fn marks_stand(marks: &[Mark], text: TextAt) -> bool
     ensures { result ≡ spec.marks_stand text 1 0 marks.now }

@@ -1,4 +1,5 @@
-//! The symbol table and the string table of an image, and the marks that they stand for.
+//! The symbol table and the string table of an image, and the marks that they stand for: a mark is a symbol, a name for a
+//! word of code.
 #![tactic(auto)]
 
 mod entry;

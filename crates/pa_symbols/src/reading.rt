@@ -55,7 +55,7 @@ fn read_mark<'a>(
     Ok(Some(Mark { name, at, public }))
 }
 
-/// The marks of the entries, where each stands, and the place of the strings behind their names.
+/// The marks of the entries, where each stands, and the place of the strings after their names.
 fn read_marks<'a>(
     alloc: Global,
     symbols: &[u8],

@@ -131,7 +131,7 @@ fn printed(alloc: Global, instr: Instr) -> Result<String, AllocError> {
             let (t, u, n, offset) = (X(rt), X(rt2), S(rn), i32::from(imm) * 8);
             format!(in alloc; "{op:?} {t}, {u}, [{n}, #{offset}]")
         }
-        // The label has to stand before or behind by that many words.
+        // The label has to stand before or after by that many words.
         Instr::Branch { op, .. } => format!(in alloc; "{op:?} label"),
         Instr::BranchConditional { condition, .. } => format!(in alloc;
             "bcond #{condition}, label"

@@ -1,4 +1,4 @@
--- What the lines ahead give goes behind what is there, and the first rule that they break is the text's.
+-- What the lines ahead give goes after what is there, and the first rule that they break is the text's.
 use Rattle.std.proofs.Common.{◌+◌, ◌≤◌, ℕ, length, map}
 use Rattle.pa_asmline.specs.Reading.{line}
 use Rattle.pa_asm.specs.declared.rule.AsmRule.{AsmRule}
