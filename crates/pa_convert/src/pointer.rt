@@ -1,6 +1,6 @@
 //! Which pointers go together (C11 6.3.2.3, 6.5.9, 6.5.15, 6.5.16.1), and the types of parameters (6.7.6.3).
 
-ghost use Rattle.std.specs.Prelude.{◌≡◌, ◌<◌, length, option_map, IfOk, IfSome, ◌||◌, if◌then◌else◌};
+ghost use Rattle.std.specs.Prelude.{◌≡◌, ◌<◌, length, option_map, IfOk, OnErr, IfSome, ◌||◌, if◌then◌else◌};
 ghost use Rattle.pa_ctype.specs.Qualifiers.{is_constant};
 ghost use Rattle.pa_ctype.specs.Tables.{ForTypes};
 ghost use Rattle.pa_convert.specs.Conversions as spec;
@@ -110,12 +110,14 @@ pub fn common_pointer(types: &mut Types, left: u32, right: u32) -> Result<Option
     }
 }
 
-/// A parameter's type: an array is a pointer to its elements, a function a pointer to it (C11 6.7.6.3p7, p8).
+/// A parameter's type: an array is a pointer to its elements, a function a pointer to it (C11 6.7.6.3p7, p8). Out of memory the
+/// table is as before.
 pub fn adjusted(types: &mut Types, number: u32) -> Result<u32, Memory>
     requires { number < length types.old.nodes }
     ensures known { IfOk result (λ n. n < length types.new.nodes) }
     ensures is { IfOk result (λ n. ForTypes types.new (λ m. m n ≡ spec.adjusted (m number))) }
     ensures grows { Grows types.old types.new }
+    ensures err { OnErr result (types.new ≡ types.old) }
 {
     match form_of(types, number) {
         Form::Array { of, .. } => pointer_to(types, of),

@@ -86,7 +86,7 @@ impl<'a> Names<'a> {
         if name == text { Some(number) } else { None }
     }
 
-    /// Notes a name at the end. After want of memory the names are as before.
+    /// Notes a name at the end.
     #[tactic(auto, using(crate::proofs::Lookup::inserted, crate::proofs::Lookup::texts_push, crate::proofs::Lookup::texts_length))]
     fn add(&mut self, text: &'a [u8]) -> Result<NameNumber, Memory>
         ensures number { IfOk result (λ n. n ≡ length self.old) }

@@ -1,7 +1,7 @@
 use Rattle.std.proofs.Common.{◌≡◌, ◌+◌, ◌≤◌, List, [], ◌∷◌, ◌++◌, length, true, arith}
 use Rattle.pa_mem.specs.Memory.{Region, apart_from_all}
 use Rattle.pa_mem.proofs.Apart.{apart-after, apart_from_all-append}
-use Rattle.pa_rows.proofs.memory.space.Goals as goal
+use Rattle.pa_memory_rows.proofs.memory.space.Goals as goal
 
 first : (one : Region) (regions : List Region) → regions ≡ [] → apart_from_all one regions ≡ true
 unfolding apart_from_all
