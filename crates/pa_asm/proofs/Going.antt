@@ -16,9 +16,10 @@ use Rattle.pa_asm.specs.Labels.{words, is_label, find, find_from}
 use Rattle.pa_asm.specs.Settled.{Labels}
 use Rattle.pa_asm.specs.Parts.{Parts, nothing, joined, Gives, AllGive, FirstBreaks}
 use Rattle.pa_asm.specs.Answers.{parts_of, IsAnswer, IsObjectOf}
-use Rattle.pa_asm.specs.Reading.{kept, IsAdded, or_else, noted_line, pieces_behind, own_len, len_behind}
+use Rattle.std.specs.Option.{option_or}
+use Rattle.pa_asm.specs.Reading.{kept, IsAdded, noted_line, pieces_behind, own_len, len_behind}
 use Rattle.pa_asm.specs.Written.{pieces, read, AreLines, Says}
-use Rattle.pa_asm.proofs.Kept.{or_else-none}
+use Rattle.pa_names.proofs.Kept.{or-none, or-assoc}
 
 pub false_is_true : false ≡ true → ⊥
 false_is_true e = cc
@@ -39,25 +40,21 @@ words_short (byte ∷ text) = omega (arith, one_word (line (byte ∷ text)))
 
 -- ---- labels
 
-or_else-or_else : (a b c : Option Place) → or_else (or_else a b) c ≡ or_else a (or_else b c)
-or_else-or_else None b c = refl
-or_else-or_else (Some place) b c = refl
-
-found_or : (t : Bool) (place : Place) (other : Option Place) → or_else (cond t (Some place) None) other ≡ cond t (Some place) other
+found_or : (t : Bool) (place : Place) (other : Option Place) → option_or (cond t (Some place) None) other ≡ cond t (Some place) other
 found_or true place other = refl
 found_or false place other = refl
 
 -- a line is noted
-pub found_more : (old new : Text → Option Place) (number at : ℕ) (l : Line) (lines : List Line) → ((name : Text) → new name ≡ or_else (old name) (noted_line l (record { line = number; at = at }) name)) → (name : Text) → or_else (new name) (find_from name (number + 1) (at + words l) lines) ≡ or_else (old name) (find_from name number at (l ∷ lines))
+pub found_more : (old new : Text → Option Place) (number at : ℕ) (l : Line) (lines : List Line) → ((name : Text) → new name ≡ option_or (old name) (noted_line l (record { line = number; at = at }) name)) → (name : Text) → option_or (new name) (find_from name (number + 1) (at + words l) lines) ≡ option_or (old name) (find_from name number at (l ∷ lines))
 unfolding find_from
 found_more old new number at l lines noted name =
-    ap (λ place. or_else place (find_from name (number + 1) (at + words l) lines)) (noted name)
-    ∙ or_else-or_else (old name) _ _
-    ∙ ap (or_else (old name)) (found_or (is_label name l) (record { line = number; at = at }) (find_from name (number + 1) (at + words l) lines))
+    ap (λ place. option_or place (find_from name (number + 1) (at + words l) lines)) (noted name)
+    ∙ or-assoc (old name) _ _
+    ∙ ap (option_or (old name)) (found_or (is_label name l) (record { line = number; at = at }) (find_from name (number + 1) (at + words l) lines))
 
-pub found_all : (kept : Option Place) (name : Text) (number at : ℕ) (rest : List Line) → rest ≡ [] → or_else kept (find_from name number at rest) ≡ kept
+pub found_all : (kept : Option Place) (name : Text) (number at : ℕ) (rest : List Line) → rest ≡ [] → option_or kept (find_from name number at rest) ≡ kept
 unfolding find_from
-found_all kept name number at rest e = rw e (or_else-none kept)
+found_all kept name number at rest e = rw e (or-none kept)
 
 -- ---- what is left
 

@@ -32,13 +32,7 @@ len_behind (Some text) = own_len text.now
 abbrev pub kept : Labels → Text → Option Place
 kept labels name = get_by (λ key. bytes_eq name key.now) labels.places
 
-abbrev pub or_else : Option Place → Option Place → Option Place
-or_else None other = other
-or_else (Some place) other = Some place
-
-abbrev pub noted : Text → Place → Text → Option Place
-noted own place name = if bytes_eq name own then Some place else None
-
+-- what a line gives to each name
 abbrev pub noted_line : Line → Place → Text → Option Place
 noted_line line place name = if is_label name line then Some place else None
 

@@ -1,7 +1,8 @@
 ghost use Rattle.std.specs.Prelude.{◌≡◌, ◌≤◌, ℕ, List, length, None, OnOk, IfOk};
 ghost use Rattle.pa_asmline.specs.Shapes.{shown};
+ghost use Rattle.pa_names.specs.Kept.{Adds, noted};
 ghost use Rattle.pa_asm.specs.Labels as spec;
-ghost use Rattle.pa_asm.specs.Reading.{kept, or_else, noted, noted_line};
+ghost use Rattle.pa_asm.specs.Reading.{kept, noted_line};
 ghost use Rattle.pa_asm.specs.Written.{read};
 
 use crate::pieces::cut_line;
@@ -43,7 +44,7 @@ impl<'a> Labels<'a> {
 
     /// Keeps the place of a label, unless its name has one.
     fn note(&mut self, own: &'a [u8], place: Place) -> Result<(), Memory>
-        ensures { OnOk result ((name : List ℕ) → kept self.new name ≡ or_else (kept self.old name) (noted own.now place name)) }
+        ensures { OnOk result (Adds (kept self.old) (kept self.new) (noted own.now place)) }
     {
         if self.find(own).is_some() {
             return Ok(());
@@ -55,9 +56,9 @@ impl<'a> Labels<'a> {
     }
 
     /// Keeps the place of a line's label if it has one.
-    #[tactic(auto, using(crate::proofs::Kept::nothing_noted))]
+    #[tactic(auto, using(pa_names::proofs::Kept::nothing_noted))]
     fn note_line(&mut self, line: &Line<'a>, place: Place) -> Result<(), Memory>
-        ensures { OnOk result ((name : List ℕ) → kept self.new name ≡ or_else (kept self.old name) (noted_line (shown line.now) place name)) }
+        ensures { OnOk result (Adds (kept self.old) (kept self.new) (noted_line (shown line.now) place)) }
     {
         match line {
             Line::Label { name, .. } => self.note(name, place),

@@ -11,10 +11,10 @@ use Rattle.pa_layout.specs.Fields.{AllFit}
 use Rattle.pa_macho.specs.declared.header.Role.TheVariants.{Main}
 use Rattle.pa_macho.specs.declared.header.Header.{Header}
 use Rattle.pa_macho.specs.declared.places.Places.{Places}
-use Rattle.pa_macho.specs.Layout.{places_of, up}
+use Rattle.pa_macho.specs.Layout.{front_size, page_size, places_of, up}
 use Rattle.pa_macho.specs.Layout as fields
 use Rattle.pa_macho.specs.Writing.{FieldsFit}
-use Rattle.pa_macho.proofs.Fits.{room_fits}
+use Rattle.pa_macho.proofs.Fits.{room_fits, fields_fit}
 use Rattle.pa_fixups.specs.Fixups as fixups
 use Rattle.pa_fixups.specs.Fixups.{ImportsFit}
 use Rattle.pa_fixups.specs.Chain.{may_stand, ordinal_fits, target_fits}
@@ -49,6 +49,26 @@ length-text s =
 abbrev made : (text stubs got fixups : ℕ) → Header
 made text stubs got fixups = record { role = Main; text = text; stubs = stubs; consts = 0; got = got; cells = 0; fixups = fixups; symbols = 16; strings = 7 }
 
+-- with one stub at a place
+abbrev pub with_stub : (text_end stubs : ℕ) → Places
+with_stub text_end stubs = record {
+  text_end = text_end;
+  stubs = stubs;
+  stubs_end = stubs + 16;
+  consts = stubs + 16;
+  consts_end = stubs + 16;
+  got = page_size;
+  got_end = 0x4008;
+  cells = 0x4010;
+  cells_end = 0x4010;
+  linkedit = 0x8000;
+  fixups_end = 0x805e;
+  symbols = 0x8060;
+  symbols_end = 0x8070;
+  strings = 0x8070;
+  end = 0x8077;
+}
+
 -- of a program that prints n times
 abbrev pub header_with : ℕ → Header
 header_with zero = made 44 0 0 81
@@ -72,49 +92,17 @@ places_with zero = record {
   strings = 0x8068;
   end = 0x806f;
 }
-places_with (suc n) = record {
-  text_end = 0x400 + (12 * suc n + 44);
-  stubs = stub_place (suc n);
-  stubs_end = stub_place (suc n) + 16;
-  consts = stub_place (suc n) + 16;
-  consts_end = stub_place (suc n) + 16;
-  got = 0x4000;
-  got_end = 0x4008;
-  cells = 0x4010;
-  cells_end = 0x4010;
-  linkedit = 0x8000;
-  fixups_end = 0x805e;
-  symbols = 0x8060;
-  symbols_end = 0x8070;
-  strings = 0x8070;
-  end = 0x8077;
-}
+places_with (suc n) = with_stub (front_size + (12 * suc n + 44)) (stub_place (suc n))
 
 -- where a stub ends and nothing is constant
 places_stub : (h : Header) (stubs : ℕ) → h.stubs ≡ 16 → h.consts ≡ 0 → h.got ≡ 8 → h.cells ≡ 0 → h.fixups ≡ 94 → h.symbols ≡ 16 → h.strings ≡ 7
-    → up 16 (0x400 + h.text) ≡ stubs → stubs % 16 ≡ 0 → 0x400 ≤ stubs → stubs + 16 ≤ 0x4000
-    → places_of h ≡ record {
-      text_end = 0x400 + h.text;
-      stubs = stubs;
-      stubs_end = stubs + 16;
-      consts = stubs + 16;
-      consts_end = stubs + 16;
-      got = 0x4000;
-      got_end = 0x4008;
-      cells = 0x4010;
-      cells_end = 0x4010;
-      linkedit = 0x8000;
-      fixups_end = 0x805e;
-      symbols = 0x8060;
-      symbols_end = 0x8070;
-      strings = 0x8070;
-      end = 0x8077;
-    }
+    → up 16 (front_size + h.text) ≡ stubs → stubs % 16 ≡ 0 → front_size ≤ stubs → stubs + 16 ≤ page_size
+    → places_of h ≡ with_stub (front_size + h.text) stubs
 unfolding places_of
 places_stub h stubs one two three four five six seven begins whole low high =
     let next : up 16 (stubs + 16) ≡ stubs + 16 = omega arith in
     let none : stubs + 16 + 0 ≡ stubs + 16 = omega arith in
-    let page : up 0x4000 (stubs + 16) ≡ 0x4000 = omega arith in
+    let page : up page_size (stubs + 16) ≡ page_size = omega arith in
     rw (one, two, three, four, five, six, seven, begins, next, none, page)
 
 pub places : (n : ℕ) → n ≤ 1000 → places_of (header_with n) ≡ places_with n
@@ -176,21 +164,7 @@ consts_fits h p role size small =
 
 fits_with : (n : ℕ) → n ≤ 1000 → FieldsFit (header_with n) (places_with n)
 unfolding fields.text_segment fields.text_section fields.stubs_section fields.consts_section fields.data_segment fields.got_section fields.cells_section fields.linkedit_segment fields.fixups_command fields.symbols_command fields.segment_of fields.section_of
-fits_with zero few =
-    let h = header_with zero in
-    let p = places_with zero in
-    record {
-      text_segment = room_fits (fields.text_segment h p p.end) refl;
-      text = room_fits (fields.text_section h) refl;
-      stubs = room_fits (fields.stubs_section h p) refl;
-      consts = room_fits (fields.consts_section h p) refl;
-      data_segment = room_fits (fields.data_segment h p p.end) refl;
-      got = room_fits (fields.got_section h p) refl;
-      cells = room_fits (fields.cells_section h p) refl;
-      linkedit = room_fits (fields.linkedit_segment h p p.end) refl;
-      fixups = room_fits (fields.fixups_command h p) refl;
-      symbols = room_fits (fields.symbols_command h p) refl;
-    }
+fits_with zero few = fields_fit (header_with zero) (places_with zero) refl
 fits_with (suc n) few =
     let h = header_with (suc n) in
     let p = places_with (suc n) in

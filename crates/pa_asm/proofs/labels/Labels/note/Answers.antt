@@ -1,7 +1,7 @@
 use Rattle.std.proofs.Common.{◌≡◌, None, Some, sym, ◌∙◌}
 use Rattle.std.proofs.lemmas.Map.Text.{hash_map_updates_str}
 use Rattle.pa_asm.specs.Reading.{kept}
-use Rattle.pa_asm.proofs.Kept.{noted_new, none_of}
+use Rattle.pa_names.proofs.Kept.{noted_new, none_of}
 use Rattle.pa_asm.proofs.labels.Labels.note.Goals as goal
 
 pub returns-in-Ok : goal.returns-in-Ok

@@ -2,7 +2,8 @@ use Rattle.std.proofs.Common.{◌+◌, ◌∷◌, ◌∙◌, ap, sym, map, arith
 use Rattle.pa_asmline.specs.Reading.{line}
 use Rattle.pa_asmline.specs.Shapes.{shown}
 use Rattle.pa_asm.specs.Labels.{find_from}
-use Rattle.pa_asm.specs.Reading.{kept, or_else, pieces_behind}
+use Rattle.std.specs.Option.{option_or}
+use Rattle.pa_asm.specs.Reading.{kept, pieces_behind}
 use Rattle.pa_asm.proofs.Going.{found_more, found_all, lines_ahead, none_ahead, left}
 use Rattle.pa_asm.proofs.labels.Labels.of.Goals as goal
 
@@ -17,9 +18,9 @@ lines-preserved c =
     let behind = map line (pieces_behind c.cut_line.result.1) in
     record {
       found = λ name.
-          ap (λ at. or_else (kept c.note_line.new.self name) (find_from name (c.lines.number + 1) (c.lines.at + at) behind)) c.words-at.ensures
+          ap (λ at. option_or (kept c.note_line.new.self name) (find_from name (c.lines.number + 1) (c.lines.at + at) behind)) c.words-at.ensures
           ∙ found_more (kept c.lines.labels) (kept c.note_line.new.self) c.lines.number c.lines.at (shown c.read_line-line.result) behind c.in_ok-note_line.ensures name
-          ∙ ap (λ lines. or_else (kept c.lines.labels name) (find_from name c.lines.number c.lines.at lines)) (ap (λ l. l ∷ behind) c.read_line-line.ensures.value ∙ sym (lines_ahead c.lines.rest c.in-Some.ahead c.cut_line.result.0.now c.cut_line.result.1 c.in-Some.is c.cut_line.ensures.pieces))
+          ∙ ap (λ lines. option_or (kept c.lines.labels name) (find_from name c.lines.number c.lines.at lines)) (ap (λ l. l ∷ behind) c.read_line-line.ensures.value ∙ sym (lines_ahead c.lines.rest c.in-Some.ahead c.cut_line.result.0.now c.cut_line.result.1 c.in-Some.is c.cut_line.ensures.pieces))
           ∙ c.lines.invariant.found name;
       words_fit = omega (arith, left.0, c.lines.invariant.words_fit);
       lines_fit = omega (arith, left.1, c.lines.invariant.lines_fit);
