@@ -1,0 +1,3 @@
+pub mod Advanced
+pub mod Made
+pub mod Input
