@@ -1,0 +1,4 @@
+pub mod Advanced
+pub mod Made
+pub mod Input
+pub mod Unread
