@@ -10,7 +10,7 @@ use Rattle.pa_task.specs.declared.task.Task.{Task}
 use Rattle.pa_task.specs.Reading.{Text, Shelf, Outside}
 use Rattle.pa_task.proofs.Stops.{IsStop, refused, task_stops}
 use Rattle.pa_paclab.specs.Lines.{line_of}
-use Rattle.pa_paclab.specs.Runs.{RunStops}
+use Rattle.pa_paclab.specs.Runs.{code_of, RunStops}
 use Rattle.pa_paclab.specs.Answers.{Call, RunFails, CommandStops, WordsStop, IsStopped, Writes, WritesPart, IsAnswer}
 
 run : (code : Code) (options : RunOptions) (task : Task) (answer : Exit) → RunStops code options task answer → IsStop answer
@@ -25,7 +25,7 @@ words all answer p = tt
 
 fails : (host : Code) (told : Shelf) (name : Text) (options : RunOptions) (before now : Outside) (answer : Exit) → RunFails host told name options before now answer → IsStop answer
 fails host told name options before now answer (inl p) = task_stops told name options before now answer p
-fails host told name options before now answer (inr p) = run _ options p.0 answer p.2
+fails host told name options before now answer (inr p) = run (code_of host options) options p.0 answer p.2
 
 command_stops : (host : Code) (told : Shelf) (c : Command) (before now : Outside) (answer : Exit)
     → CommandStops host told c before now answer → IsStop answer

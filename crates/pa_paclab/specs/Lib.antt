@@ -3,6 +3,4 @@ pub mod Exit
 pub mod Host
 pub mod Lines
 pub mod Printed
-pub mod Reading
-pub mod Refusals
 pub mod Runs

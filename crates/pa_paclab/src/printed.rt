@@ -2,7 +2,7 @@
 
 ghost use Rattle.std.specs.Prelude.{◌≡◌, OnOk, OnErr};
 ghost use Rattle.pa_io.specs.Outside.{Rose, Grew, GrewByProperPrefix};
-ghost use Rattle.pa_paclab.specs.Printed.{text_of};
+ghost use Rattle.pa_paclab.specs.Printed.{disc_line, text_of};
 ghost use Rattle.pa_paclab.specs.Runs.{is_short};
 
 use pa_engine::{Page, Ran, report};

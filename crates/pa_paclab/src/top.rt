@@ -18,6 +18,7 @@ use pa_words::{Command, RunOptions};
 use std::alloc::Global;
 
 /// Runs a file, or answers why it isn't run.
+#[tactic(auto, using(crate::proofs::Causes::unread, crate::proofs::Causes::not_run))]
 fn run_file<H: Shelf, S: Source, P: Pac>(
     alloc: Global,
     file: &str,
@@ -88,6 +89,7 @@ fn do_command<H: Shelf, S: Source, P: Pac>(
 }
 
 /// Does what the words ask for, up to the printing.
+#[tactic(auto, using(crate::proofs::Causes::no_command, crate::proofs::Causes::command_stops, crate::proofs::Causes::command_done, crate::proofs::Causes::kept_without_command, crate::proofs::Causes::kept_by_command))]
 fn answer<H: Shelf, S: Source, P: Pac>(
     alloc: Global,
     words: &[String],
@@ -114,7 +116,8 @@ fn answer<H: Shelf, S: Source, P: Pac>(
     ensures stays { UnlessFromSource (spelled (map string_bytes words.now)) (source.new ≡ source.old) }
 {
     let command = pa_words::words(alloc, words)?;
-    do_command(alloc, &command, shelf, source, host)
+    let printed = do_command(alloc, &command, shelf, source, host)?;
+    Ok(printed)
 }
 
 /// Does what the words ask for, with the files of a shelf, the bytes of a source and the host's PAC function, and writes

@@ -1,11 +1,12 @@
 //! A shelf, a source and a sink that fail at each of their calls in turn.
 
-use crate::world::{MOST, call, shelf, sink, small_shelf, source};
+use crate::world::{MOST, call, shelf, sink, source};
 use pa_paclab::{Exit, Refusal, Rule};
 use std::test::Fail;
 
 /// A run that reads three files, and one that reads the source.
 const FILES: &str = "run hello.c --input in --script return --log short";
+
 const SOURCE: &str = "run hello.c --input - --script return --log short";
 
 #[test]
@@ -18,7 +19,7 @@ fn a_shelf_fails_at_each_call(rt: HostRuntime) -> Result<(), Fail> {
         (4, Exit::Done, b"", 3),
     ];
     for (failing, exit, line, calls) in rows {
-        let mut shelf = shelf(alloc, failing)?;
+        let mut shelf = shelf(alloc, FILES, failing)?;
         let mut source = source(alloc, 5, 0)?;
         let mut out = sink(alloc, 0)?;
         let answer = call(alloc, FILES, &mut shelf, &mut source, &mut out)?;
@@ -42,7 +43,7 @@ fn a_source_fails_at_each_call(rt: HostRuntime) -> Result<(), Fail> {
         (4, Exit::Done, 3),
     ];
     for (failing, exit, calls) in rows {
-        let mut shelf = shelf(alloc, 0)?;
+        let mut shelf = shelf(alloc, SOURCE, 0)?;
         let mut source = source(alloc, 70_000, failing)?;
         let mut out = sink(alloc, 0)?;
         let answer = call(alloc, SOURCE, &mut shelf, &mut source, &mut out)?;
@@ -67,19 +68,18 @@ fn a_source_has_its_limit(rt: HostRuntime) -> Result<(), Fail> {
         file: 65,
         place: MOST as u64,
     });
-    for (count, exit, left) in [
-        (MOST, Exit::Done, 0),
-        (MOST + 1, refused, 0),
-        (MOST + 9, refused, 8),
-    ] {
-        let mut shelf = shelf(alloc, 0)?;
+    for (count, exit) in [(MOST, Exit::Done), (MOST + 1, refused)] {
+        let mut shelf = shelf(alloc, SOURCE, 0)?;
         let mut source = source(alloc, count, 0)?;
         let mut out = sink(alloc, 0)?;
         let answer = call(alloc, SOURCE, &mut shelf, &mut source, &mut out)?;
         assert_eq!(rt; answer, exit);
-        assert_eq!(rt; source.left.len(), left);
+        assert!(rt; source.left.is_empty());
         if exit == refused {
-            assert_eq!(rt; out.written.as_slice(), b"refused M6 65 1048576\n".as_slice());
+            assert_eq!(rt;
+                out.written.as_slice(),
+                b"refused M6 65 1048576\n".as_slice()
+            );
         }
     }
     Ok(())
@@ -87,6 +87,7 @@ fn a_source_has_its_limit(rt: HostRuntime) -> Result<(), Fail> {
 
 /// Words whose text is done, and words that are refused.
 const DONE: &str = "run hello.c --log short";
+
 const REFUSED: &str = "run octal.c";
 
 #[test]
@@ -95,13 +96,29 @@ fn a_sink_fails_at_each_call(rt: HostRuntime) -> Result<(), Fail> {
     for line in [DONE, "disc cb", REFUSED, "run"] {
         let mut whole = sink(alloc, 0)?;
         let mut input = source(alloc, 0, 0)?;
-        let wanted = call(alloc, line, &mut small_shelf(alloc)?, &mut input, &mut whole)?;
+        let wanted = call(
+            alloc,
+            line,
+            &mut shelf(alloc, line, 0)?,
+            &mut input,
+            &mut whole,
+        )?;
         let text = whole.written.as_slice();
-        let cut = if wanted == Exit::Done { Exit::WriteFault } else { wanted };
-        for failing in 1..40 {
+        let cut = if wanted == Exit::Done {
+            Exit::WriteFault
+        } else {
+            wanted
+        };
+        for failing in 1..20 {
             let mut out = sink(alloc, failing)?;
             let mut input = source(alloc, 0, 0)?;
-            let answer = call(alloc, line, &mut small_shelf(alloc)?, &mut input, &mut out)?;
+            let answer = call(
+                alloc,
+                line,
+                &mut shelf(alloc, line, 0)?,
+                &mut input,
+                &mut out,
+            )?;
             let reached = out.calls >= failing;
             assert_eq!(rt; answer, if reached { cut } else { wanted });
             assert!(rt; text.starts_with(out.written.as_slice()));

@@ -65,7 +65,13 @@ fn assert_answers(rt: &impl Abort, alloc: Global, rows: &[Row]) -> Result<(), Fa
     for (line, exit, text) in rows {
         let mut source = source(alloc, 5, 0)?;
         let mut out = sink(alloc, 0)?;
-        let answer = call(alloc, line, &mut shelf(alloc, 0)?, &mut source, &mut out)?;
+        let answer = call(
+            alloc,
+            line,
+            &mut shelf(alloc, line, 0)?,
+            &mut source,
+            &mut out,
+        )?;
         assert_eq!(rt; answer, *exit, "{line}");
         assert_eq!(rt; out.written.as_slice(), *text, "{line}");
         assert_eq!(rt; source.calls, 0);
@@ -73,19 +79,34 @@ fn assert_answers(rt: &impl Abort, alloc: Global, rows: &[Row]) -> Result<(), Fa
     Ok(())
 }
 
-
 #[test]
 fn words_that_are_no_command(rt: HostRuntime) -> Result<(), Fail> {
     let rows: [Row; 14] = [
         ("''", Exit::Usage(UseFault::U1), b"usage U1\n"),
         ("--help", Exit::Usage(UseFault::U1), b"usage U1\n"),
         ("walk hello.c", Exit::Usage(UseFault::U1), b"usage U1\n"),
-        ("run --fast hello.c", Exit::Usage(UseFault::U2), b"usage U2\n"),
+        (
+            "run --fast hello.c",
+            Exit::Usage(UseFault::U2),
+            b"usage U2\n",
+        ),
         ("run --help", Exit::Usage(UseFault::U2), b"usage U2\n"),
         ("run --steps", Exit::Usage(UseFault::U3), b"usage U3\n"),
-        ("run --steps x hello.c", Exit::Usage(UseFault::U4), b"usage U4\n"),
-        ("run --steps 2000001 hello.c", Exit::Usage(UseFault::U4), b"usage U4\n"),
-        ("run --steps 1 --steps", Exit::Usage(UseFault::U5), b"usage U5\n"),
+        (
+            "run --steps x hello.c",
+            Exit::Usage(UseFault::U4),
+            b"usage U4\n",
+        ),
+        (
+            "run --steps 2000001 hello.c",
+            Exit::Usage(UseFault::U4),
+            b"usage U4\n",
+        ),
+        (
+            "run --steps 1 --steps",
+            Exit::Usage(UseFault::U5),
+            b"usage U5\n",
+        ),
         ("run", Exit::Usage(UseFault::U6), b"usage U6\n"),
         ("run --log short", Exit::Usage(UseFault::U6), b"usage U6\n"),
         ("check a b", Exit::Usage(UseFault::U6), b"usage U6\n"),
@@ -125,19 +146,39 @@ fn a_run_and_its_options(rt: HostRuntime) -> Result<(), Fail> {
         ("run hello.c", Exit::Done, REPORT),
         ("run --log full -- --hello.c", Exit::Done, REPORT),
         ("run --log short hello.c", Exit::Done, SHORT),
-        ("run hello.c --log short --steps 29", Exit::Done, b"output 2\nHi\nend bound\nsigns 4 takes 5 lands 5 unsigned 0\n"),
+        (
+            "run hello.c --log short --steps 29",
+            Exit::Done,
+            b"output 2\nHi\nend bound\nsigns 4 takes 5 lands 5 unsigned 0\n",
+        ),
         ("run hello.c --log short --steps 0030", Exit::Done, SHORT),
-        ("run hello.c --log short --steps 0", Exit::Done, b"output 0\n\nend bound\nsigns 1 takes 0 lands 0 unsigned 0\n"),
+        (
+            "run hello.c --log short --steps 0",
+            Exit::Done,
+            b"output 0\n\nend bound\nsigns 1 takes 0 lands 0 unsigned 0\n",
+        ),
         ("run hello.c --log short --slide 65535", Exit::Done, SHORT),
-        ("run hello.c --log short --pac zero --seed 7", Exit::Done, SHORT),
+        (
+            "run hello.c --log short --pac zero --seed 7",
+            Exit::Done,
+            SHORT,
+        ),
         ("run hello.c --log short --pac sip", Exit::Done, SHORT),
         ("run hello.c --log short --pac fold", Exit::Done, SHORT),
         ("run hello.c --log short --input in", Exit::Done, SHORT),
         ("run hello.c --log short --input limit", Exit::Done, SHORT),
         ("run hello.c --log short --script empty", Exit::Done, SHORT),
-        ("run hello.c --log short --script return", Exit::Done, REPLACED),
+        (
+            "run hello.c --log short --script return",
+            Exit::Done,
+            REPLACED,
+        ),
         ("run hello.c --log short --script late", Exit::Done, SHORT),
-        ("run hello.c --log short --script return --pac zero", Exit::Done, UNSIGNED),
+        (
+            "run hello.c --log short --script return --pac zero",
+            Exit::Done,
+            UNSIGNED,
+        ),
     ];
     assert_answers(&rt, rt.alloc(), &rows)
 }
@@ -146,21 +187,45 @@ fn a_run_and_its_options(rt: HostRuntime) -> Result<(), Fail> {
 #[test]
 fn where_and_under_what_a_run_signs(rt: HostRuntime) -> Result<(), Fail> {
     let rows: [(&str, &[u8]); 5] = [
-        ("--slide 1", b"load sign ia 0000000100008000 0000000180000400 0400000180000400\n1 sign ib 0000000170000000 0000000100004404 3405000100004404\n"),
-        ("--pac zero", b"load sign ia 0000000100004000 0000000180000400 0000000180000400\n1 sign ib 0000000170000000 0000000100000404 0000000100000404\n"),
-        ("--pac fold", b"load sign ia 0000000100004000 0000000180000400 c400000180000400\n1 sign ib 0000000170000000 0000000100000404 7405000100000404\n"),
-        ("--pac sip", b"load sign ia 0000000100004000 0000000180000400 ee47000180000400\n1 sign ib 0000000170000000 0000000100000404 c026000100000404\n"),
-        ("--pac sip --seed 506097522914230528", b"load sign ia 0000000100004000 0000000180000400 e92f000180000400\n1 sign ib 0000000170000000 0000000100000404 aa1f000100000404\n"),
+        (
+            "--slide 1",
+            b"load sign ia 0000000100008000 0000000180000400 0400000180000400\n1 sign ib 0000000170000000 0000000100004404 3405000100004404\n",
+        ),
+        (
+            "--pac zero",
+            b"load sign ia 0000000100004000 0000000180000400 0000000180000400\n1 sign ib 0000000170000000 0000000100000404 0000000100000404\n",
+        ),
+        (
+            "--pac fold",
+            b"load sign ia 0000000100004000 0000000180000400 c400000180000400\n1 sign ib 0000000170000000 0000000100000404 7405000100000404\n",
+        ),
+        (
+            "--pac sip",
+            b"load sign ia 0000000100004000 0000000180000400 ee47000180000400\n1 sign ib 0000000170000000 0000000100000404 c026000100000404\n",
+        ),
+        (
+            "--pac sip --seed 506097522914230528",
+            b"load sign ia 0000000100004000 0000000180000400 e92f000180000400\n1 sign ib 0000000170000000 0000000100000404 aa1f000100000404\n",
+        ),
     ];
     let alloc = rt.alloc();
     for (options, line) in rows {
         let words = format!(in alloc; "run hello.c --steps 2 {options}")?;
         let mut source = source(alloc, 0, 0)?;
         let mut out = sink(alloc, 0)?;
-        let answer = call(alloc, &words, &mut shelf(alloc, 0)?, &mut source, &mut out)?;
+        let answer = call(
+            alloc,
+            &words,
+            &mut shelf(alloc, &words, 0)?,
+            &mut source,
+            &mut out,
+        )?;
         assert_eq!(rt; answer, Exit::Done);
         let start = b"output 0\n\nend bound\nsigns 2 takes 0 lands 0 unsigned 0\n".len();
-        assert!(rt; out.written.as_slice()[start..].starts_with(line), "{words}");
+        assert!(rt;
+            out.written.as_slice()[start..].starts_with(line),
+            "{words}"
+        );
     }
     Ok(())
 }
@@ -169,22 +234,82 @@ fn where_and_under_what_a_run_signs(rt: HostRuntime) -> Result<(), Fail> {
 fn refusals_in_their_order(rt: HostRuntime) -> Result<(), Fail> {
     let rows: [Row; 17] = [
         ("run absent.c", Exit::ReadFault(1), b"read fault 1\n"),
-        ("run - --input absent --script absent", Exit::ReadFault(1), b"read fault 1\n"),
+        (
+            "run - --input absent --script absent",
+            Exit::ReadFault(1),
+            b"read fault 1\n",
+        ),
         ("run '' --input -", Exit::ReadFault(1), b"read fault 1\n"),
-        ("run long --input -", refused(Rule::M6, 1, 1_048_576), b"refused M6 1 1048576\n"),
-        ("run limit --input -", refused(Rule::N1, 0, 0), b"refused N1 0 0\n"),
-        ("run octal.c --input - --script form", refused(Rule::N1, 0, 0), b"refused N1 0 0\n"),
-        ("run hello.c --input absent --script form", Exit::ReadFault(65), b"read fault 65\n"),
-        ("run hello.c --input long --script form", refused(Rule::M6, 65, 1_048_576), b"refused M6 65 1048576\n"),
-        ("run hello.c --script absent", Exit::ReadFault(66), b"read fault 66\n"),
-        ("run hello.c --script -", Exit::ReadFault(66), b"read fault 66\n"),
-        ("run hello.c --script long", refused(Rule::M6, 66, 1_048_576), b"refused M6 66 1048576\n"),
-        ("run hello.c --script limit", script(ScriptRule::P1, 1), b"refused P1 66 1\n"),
-        ("run hello.c --script line", script(ScriptRule::P1, 1), b"refused P1 66 1\n"),
-        ("run hello.c --script form", script(ScriptRule::P1, 2), b"refused P1 66 2\n"),
-        ("run hello.c --script steps", script(ScriptRule::P2, 2), b"refused P2 66 2\n"),
-        ("run hello.c --script text", script(ScriptRule::P4, 2), b"refused P4 66 2\n"),
-        ("run hello.c --script unread", script(ScriptRule::P4, 1), b"refused P4 66 1\n"),
+        (
+            "run long --input -",
+            refused(Rule::M6, 1, 1_048_576),
+            b"refused M6 1 1048576\n",
+        ),
+        (
+            "run limit --input -",
+            refused(Rule::N1, 0, 0),
+            b"refused N1 0 0\n",
+        ),
+        (
+            "run octal.c --input - --script form",
+            refused(Rule::N1, 0, 0),
+            b"refused N1 0 0\n",
+        ),
+        (
+            "run hello.c --input absent --script form",
+            Exit::ReadFault(65),
+            b"read fault 65\n",
+        ),
+        (
+            "run hello.c --input long --script form",
+            refused(Rule::M6, 65, 1_048_576),
+            b"refused M6 65 1048576\n",
+        ),
+        (
+            "run hello.c --script absent",
+            Exit::ReadFault(66),
+            b"read fault 66\n",
+        ),
+        (
+            "run hello.c --script -",
+            Exit::ReadFault(66),
+            b"read fault 66\n",
+        ),
+        (
+            "run hello.c --script long",
+            refused(Rule::M6, 66, 1_048_576),
+            b"refused M6 66 1048576\n",
+        ),
+        (
+            "run hello.c --script limit",
+            script(ScriptRule::P1, 1),
+            b"refused P1 66 1\n",
+        ),
+        (
+            "run hello.c --script line",
+            script(ScriptRule::P1, 1),
+            b"refused P1 66 1\n",
+        ),
+        (
+            "run hello.c --script form",
+            script(ScriptRule::P1, 2),
+            b"refused P1 66 2\n",
+        ),
+        (
+            "run hello.c --script steps",
+            script(ScriptRule::P2, 2),
+            b"refused P2 66 2\n",
+        ),
+        (
+            "run hello.c --script text",
+            script(ScriptRule::P4, 2),
+            b"refused P4 66 2\n",
+        ),
+        (
+            "run hello.c --script unread",
+            script(ScriptRule::P4, 1),
+            b"refused P4 66 1\n",
+        ),
     ];
     assert_answers(&rt, rt.alloc(), &rows)
 }
@@ -192,7 +317,7 @@ fn refusals_in_their_order(rt: HostRuntime) -> Result<(), Fail> {
 #[test]
 fn objects_that_never_fail_give_the_same(rt: HostRuntime) -> Result<(), Fail> {
     let alloc = rt.alloc();
-    let mut shelf = SureShelf::new(files(alloc)?);
+    let mut shelf = SureShelf::new(files(alloc, "")?);
     let mut source = SureSource::new(Bytes::from_slice(alloc, b"in")?);
     let mut out = SureSink::new(Bytes::new(alloc), false);
     let words = words(alloc, "run hello.c --input -")?;

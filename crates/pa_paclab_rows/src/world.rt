@@ -33,8 +33,14 @@ const SMALL: [(&[u8], &[u8]); 12] = [
     (b"return", b"20 write 0x16ffffff8 0000000000000000\n"),
     (b"late", b"29 write 0x16ffffff8 0000000000000000"),
     (b"form", b"0 write 0x16ffffff8 00\n5 write 0x16ffffff8 0\n"),
-    (b"steps", b"5 write 0x16ffffff8 00\n4 write 0x16ffffff8 00\n"),
-    (b"text", b"0 copy 0x16ffffff8 0x100000400 1\n0 write 0x100000400 00\n"),
+    (
+        b"steps",
+        b"5 write 0x16ffffff8 00\n4 write 0x16ffffff8 00\n",
+    ),
+    (
+        b"text",
+        b"0 copy 0x16ffffff8 0x100000400 1\n0 write 0x100000400 00\n",
+    ),
     (b"unread", b"0 copy 0x16ffffff8 0x10 1"),
     (b"line", b"\n"),
 ];
@@ -55,38 +61,25 @@ fn file(alloc: Global, name: &[u8], bytes: Bytes) -> Result<MemFile, AllocError>
     Ok(MemFile::new(Name::from_slice(alloc, name)?, bytes))
 }
 
-fn small_files(alloc: Global) -> Result<MemFiles, AllocError> {
+/// The small files, and those of the large ones that the words of a line name.
+pub fn files(alloc: Global, line: &str) -> Result<MemFiles, AllocError> {
     let mut files = MemFiles::new(alloc);
     for (name, bytes) in SMALL {
         files.push(file(alloc, name, Bytes::from_slice(alloc, bytes)?)?)?;
     }
-    Ok(files)
-}
-
-pub fn files(alloc: Global) -> Result<MemFiles, AllocError> {
-    let mut files = small_files(alloc)?;
     for (name, count) in LARGE {
-        let blanks = vec![in alloc; b' '; count]?;
-        files.push(file(alloc, name, Bytes::from_vec(blanks))?)?;
+        if line.split(' ').any(|word| word.as_bytes() == name) {
+            let blanks = vec![in alloc; b' '; count]?;
+            files.push(file(alloc, name, Bytes::from_vec(blanks))?)?;
+        }
     }
     Ok(files)
 }
 
-/// A shelf of the files that fails at this call.
-pub fn shelf(alloc: Global, failing: u64) -> Result<MemShelf, AllocError> {
+/// A shelf of the files for a line that fails at this call.
+pub fn shelf(alloc: Global, line: &str, failing: u64) -> Result<MemShelf, AllocError> {
     let fails = Calls::from_slice(alloc, &[failing])?;
-    Ok(MemShelf::new(files(alloc)?, 0, fails, 0, None))
-}
-
-/// A shelf of the small files, which never fails.
-pub fn small_shelf(alloc: Global) -> Result<MemShelf, AllocError> {
-    Ok(MemShelf::new(
-        small_files(alloc)?,
-        0,
-        Calls::new(alloc),
-        0,
-        None,
-    ))
+    Ok(MemShelf::new(files(alloc, line)?, 0, fails, 0, None))
 }
 
 /// A source of so many bytes that fails at this call.
