@@ -6,7 +6,7 @@ set -euo pipefail
 top=$(cd "$(dirname "${BASH_SOURCE[0]}")/.." && pwd)
 program=$top/crates/bench_lex/out/bench_lex
 [ -x "$program" ] || { echo "bench: build the proved program first: cd crates/bench_lex && rt run" >&2; exit 1; }
-[ $# -gt 0 ] || set -- source names marks spaces comment string digits
+[ $# -gt 0 ] || set -- source names distinct colliding marks spaces comment string digits
 whole=1048576
 times=100
 # The instructions of TIMES calls on a text of BYTES bytes, with those that make the text.

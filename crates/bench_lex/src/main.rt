@@ -5,6 +5,7 @@
 use pa_lex::lex;
 use pa_num::Fault;
 use std::alloc::{AllocError, Global};
+use std::fmt::Write;
 use std::{env, io};
 
 /// A text is a first part, copies of a middle part, and a last part.
@@ -78,7 +79,37 @@ fn shape_of(name: &str) -> Shape {
     }
 }
 
-fn made(alloc: Global, shape: &Shape, bytes: usize) -> Result<Vec<u8>, AllocError> {
+/// Names, each of them once.
+fn made_distinct(alloc: Global, bytes: usize) -> Result<Vec<u8>, AllocError> {
+    let mut text = String::new(alloc);
+    for i in 0..bytes / 8 {
+        write!(text, "n{i} ")?;
+    }
+    Vec::from_slice(alloc, text.as_bytes())
+}
+
+/// 1,024 names again and again whose sums of bytes, weighed by the powers of 31, are equal: `Aa` and `BB` have the same.
+fn made_colliding(alloc: Global, bytes: usize) -> Result<Vec<u8>, AllocError> {
+    let mut text = Vec::new(alloc);
+    for i in 0..bytes / 21 {
+        let mut bits = i;
+        for _ in 0..10 {
+            text.extend_from_slice(if bits % 2 == 0 { b"Aa" } else { b"BB" })?;
+            bits /= 2;
+        }
+        text.push(b' ')?;
+    }
+    Ok(text)
+}
+
+fn made(alloc: Global, name: &str, bytes: usize) -> Result<Vec<u8>, AllocError> {
+    if name == "distinct" {
+        return made_distinct(alloc, bytes);
+    }
+    if name == "colliding" {
+        return made_colliding(alloc, bytes);
+    }
+    let shape = shape_of(name);
     let mut text = Vec::new(alloc);
     text.extend_from_slice(shape.first.as_bytes())?;
     for _ in 0..bytes / shape.middle.len().max(1) {
@@ -96,7 +127,7 @@ fn main(rt: HostRuntime) -> io::Result<()> {
     };
     let bytes: u32 = bytes.parse().unwrap_or(0);
     let times: u32 = times.parse().unwrap_or(0);
-    let text = made(rt.alloc(), &shape_of(shape.as_str()), bytes as usize)?;
+    let text = made(rt.alloc(), shape.as_str(), bytes as usize)?;
     if text.len() > 4_294_967_295 {
         return Ok(());
     }

@@ -6,8 +6,6 @@ mod encoding;
 mod instr;
 mod signed;
 mod table;
-#[cfg(test)]
-mod tests;
 
 pub use decoding::decode;
 pub use encoding::{encode, in_range};

@@ -7,8 +7,6 @@ mod labels;
 mod pieces;
 mod rule;
 mod settling;
-#[cfg(test)]
-mod tests;
 
 pub use assembler::assemble;
 pub use rule::AsmRule;

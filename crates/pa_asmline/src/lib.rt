@@ -8,8 +8,6 @@ mod line;
 mod number;
 mod operand;
 mod row;
-#[cfg(test)]
-mod tests;
 mod text;
 mod value;
 

@@ -1,9 +1,10 @@
 -- The first flaw of a text, word by word and function by function.
-use Rattle.std.proofs.Common.{◌≡◌, ℕ, zero, suc, ◌+◌, ◌-◌, ◌*◌, ◌≤◌, ◌<◌, List, [], ◌∷◌, length, get_or, drop, map, refl, sym, ap, subst, ◌∙◌, arith, Option, Some, None, ◌⊎◌, inl, inr, All}
-use Rattle.std.specs.Prelude.{min, Bool, true, false, cond, not, ◌&&◌, ◌||◌, ◌==◌, eqb, ltb, slice_get}
+use Rattle.std.proofs.Common.{◌≡◌, ℕ, zero, suc, ◌+◌, ◌-◌, ◌≤◌, ◌<◌, List, [], ◌∷◌, length, drop, map, refl, sym, ap, subst, ◌∙◌, arith, Option, Some, None, ◌⊎◌, inl, inr, All}
+use Rattle.std.specs.Prelude.{Bool, true, false, cond, not, ◌&&◌, ◌||◌, eqb, ltb}
+use Rattle.std.specs.Bool.{OnTrue}
 use Rattle.std.specs.Option.{option_or, option_map_or}
 use Rattle.std.proofs.lemmas.List.Elements.{All-head, All-tail}
-use Rattle.std.proofs.lemmas.Bool.{true≢false, ne_eqb, eq-eqb, eqb-true, cases_lt, and_right, lt-ltb, ltb-true}
+use Rattle.std.proofs.lemmas.Bool.{true≢false, and_parts, ne_eqb, eq-eqb, cases_lt, lt-ltb, ltb-true}
 use Rattle.std.proofs.lemmas.Option.{slice_get-get_or, slice_get_past}
 use Rattle.pa_object.specs.declared.object.Mark.{Mark}
 use Rattle.pa_object.specs.Linkable.{Ascends}
@@ -12,18 +13,19 @@ use Rattle.pa_image.specs.Writing.{IsLegal}
 use Rattle.pa_check.specs.declared.rule.CheckRule.{CheckRule}
 use Rattle.pa_check.specs.declared.rule.CheckRule.TheVariants.{K1, K6}
 use Rattle.pa_check.specs.declared.rule.Flaw.{Flaw}
-use Rattle.pa_check.specs.declared.word.Word.{Word}
 use Rattle.pa_check.specs.declared.window.Window.{Window}
-use Rattle.pa_check.specs.Rows.{is_pacibsp, may_be_last, is_forbidden, is_stray_branch, is_stray_return, is_misplaced}
+use Rattle.pa_a64.specs.declared.instr.Instr.{Instr}
+use Rattle.pa_a64.specs.declared.instr.Instr.TheVariants as i
+use Rattle.pa_check.specs.Rows.{may_open, is_pacibsp, may_be_last, is_forbidden, is_stray_branch, is_stray_return, is_misplaced}
 use Rattle.pa_check.specs.Text.{Text, text_of, place, word_at, behind, IsFunction, is_marked}
-use Rattle.pa_check.specs.Windows.{Spot, all_spots, end_from, is_over}
-use Rattle.pa_check.specs.Rules.{lowest, function_rule, word_rule, start_rule, leaves_function, calls_elsewhere, window_broken, window_calls, enters_window}
-use Rattle.pa_check.specs.Passing.{round_at, open_behind, spot_at, IsPassed, rule_at, function_start, start_in, start_words}
+use Rattle.pa_check.specs.Windows.{all_spots, begun, end_from, is_over}
+use Rattle.pa_check.specs.Rules.{lowest, word_rule, start_rule, leaves_function, calls_elsewhere, window_broken, window_calls, enters_window}
+use Rattle.pa_check.specs.Passing.{round_at, open_behind, spot_at, is_plain, IsInert, IsPassed, rule_at, start_in, start_words}
 use Rattle.pa_check.specs.Windowed.{flaw_of, first_word, flaw_from, cut_start}
 use Rattle.pa_check.proofs.Legal.{marks_ascend, marks_inside}
-use Rattle.pa_check.proofs.Passes.{words_at, first_at, passed_here, came, Came, spots_length}
-use Rattle.pa_check.proofs.Settled.{first_stays, is_over-next, is_over-end}
-use Rattle.pa_check.proofs.Words.{length-text, marked_of, mark_at, item_at, ascending, up_to, marked_here, marked_nowhere}
+use Rattle.pa_check.proofs.Passes.{words_at, first_at, passed_here, came, spots_length}
+use Rattle.pa_check.proofs.Settled.{first_stays, opens_none, is_over-next, is_over-end}
+use Rattle.pa_check.proofs.Words.{length-text, marked_of, mark_at, ascending, up_to, marked_here, marked_nowhere}
 
 -- ---- word by word
 
@@ -97,6 +99,67 @@ module _ (t : Text) (first end : ℕ) (f : IsFunction t first end) where
       go : (b : Bool) → ltb k t.start ≡ b → b ≡ false
       go true e = let a = ltb-true _ _ e in let b = f.behind_start in absurd (omega arith)
       go false e = refl
+
+  -- a word that computes, loads or stores
+  plain_opens : (j : Option Instr) → is_plain j ≡ true → may_open j ≡ false
+  plain_opens (Some (i.MoveWide op rd imm hw)) e = refl
+  plain_opens (Some (i.SumImmediate op rd rn imm shifted)) e = refl
+  plain_opens (Some (i.SubsImmediate rd rn imm shifted)) e = refl
+  plain_opens (Some (i.Sum op rd rn rm)) e = refl
+  plain_opens (Some (i.Logical op rd rn rm)) e = refl
+  plain_opens (Some (i.MultiplyAdd op rd rn rm ra)) e = refl
+  plain_opens (Some (i.Divide op rd rn rm)) e = refl
+  plain_opens (Some (i.Shift op rd rn rm)) e = refl
+  plain_opens (Some (i.Bitfield op rd rn immr imms)) e = refl
+  plain_opens (Some (i.Csinc rd rn rm condition)) e = refl
+  plain_opens (Some i.Nop) e = refl
+  plain_opens (Some (i.LoadStore op rt rn imm)) e = refl
+  plain_opens (Some (i.LoadStoreWord op rt rn imm)) e = refl
+  plain_opens (Some (i.LoadStoreHalf op rt rn imm)) e = refl
+  plain_opens (Some (i.LoadStoreByte op rt rn imm)) e = refl
+  plain_opens (Some (i.LoadStoreUnscaled op rt rn imm)) e = refl
+  plain_opens (Some (i.LoadStorePair op rt rt2 rn imm)) e = refl
+  plain_opens other e = absurd (true≢false (sym e))
+
+  abbrev inner_rule : (at : ℕ) → Option Instr → Option CheckRule
+  inner_rule at j = lowest false (leaves_function first end at j || calls_elsewhere t at j)
+      (is_misplaced j || (window_broken None j || enters_window (all_spots t) first end at j)) false (is_forbidden j) (is_stray_branch false j) (is_stray_return false j)
+
+  plain_rule : (at : ℕ) (j : Option Instr) → is_plain j ≡ true → inner_rule at j ≡ None
+  plain_rule at (Some (i.MoveWide op rd imm hw)) e = refl
+  plain_rule at (Some (i.SumImmediate op rd rn imm shifted)) e = refl
+  plain_rule at (Some (i.SubsImmediate rd rn imm shifted)) e = refl
+  plain_rule at (Some (i.Sum op rd rn rm)) e = refl
+  plain_rule at (Some (i.Logical op rd rn rm)) e = refl
+  plain_rule at (Some (i.MultiplyAdd op rd rn rm ra)) e = refl
+  plain_rule at (Some (i.Divide op rd rn rm)) e = refl
+  plain_rule at (Some (i.Shift op rd rn rm)) e = refl
+  plain_rule at (Some (i.Bitfield op rd rn immr imms)) e = refl
+  plain_rule at (Some (i.Csinc rd rn rm condition)) e = refl
+  plain_rule at (Some i.Nop) e = refl
+  plain_rule at (Some (i.LoadStore op rt rn imm)) e = refl
+  plain_rule at (Some (i.LoadStoreWord op rt rn imm)) e = refl
+  plain_rule at (Some (i.LoadStoreHalf op rt rn imm)) e = refl
+  plain_rule at (Some (i.LoadStoreByte op rt rn imm)) e = refl
+  plain_rule at (Some (i.LoadStoreUnscaled op rt rn imm)) e = refl
+  plain_rule at (Some (i.LoadStorePair op rt rt2 rn imm)) e = refl
+  plain_rule at other e = absurd (true≢false (sym e))
+
+  pub plain_inert : (k : ℕ) → first ≤ k → k < end → eqb k first ≡ false → eqb (k + 1) end ≡ false → is_plain (word_at t k).instr ≡ true → IsInert t k first None
+  plain_inert k l h a b p =
+      let r : round_at t k None ≡ None = ap begun (opens_none t first end f k (plain_opens _ p)) in
+      record {
+        closed = refl;
+        rule = subst (λ z. rule_at t k first z ≡ None) (sym r) (rule_is k None l h ∙ rw (a, b) (plain_rule (place k) (word_at t k).instr p));
+        behind = subst (λ z. open_behind t k z ≡ None) (sym r) refl;
+      }
+
+  pub plain_if : (k : ℕ) (j : Option Instr) (current : Option Window) (b : Bool) → first ≤ k → k < end → (ltb first k && ltb (k + 1) end) ≡ true → current ≡ None → j ≡ (word_at t k).instr → b ≡ is_plain j → OnTrue b (IsInert t k first current)
+  plain_if k j current false l h a c e q = tt
+  plain_if k j current true l h a c e q =
+      let p = and_parts (ltb first k) (ltb (k + 1) end) a in
+      let x : first < k = ltb-true first k p.0 in let y : k + 1 < end = ltb-true (k + 1) end p.1 in
+      subst (λ z. IsInert t k first z) (sym c) (plain_inert k l h (ne_eqb k first (omega arith)) (ne_eqb (k + 1) end (omega arith)) (ap is_plain (sym e) ∙ sym q))
 
 -- ---- functions
 

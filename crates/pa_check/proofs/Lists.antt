@@ -1,15 +1,14 @@
 -- The first flaw of stubs and slots, one after the other.
-use Rattle.std.proofs.Common.{◌≡◌, ℕ, zero, suc, ◌+◌, ◌-◌, ◌*◌, ◌%◌, ◌≤◌, ◌<◌, List, [], ◌∷◌, length, get_or, drop, drop-cons, refl, sym, ap, subst, ◌∙◌, arith, Option, Some, None, ◌⊎◌, inl, inr, All}
+use Rattle.std.proofs.Common.{◌≡◌, ℕ, zero, suc, ◌+◌, ◌-◌, ◌*◌, ◌%◌, ◌≤◌, ◌<◌, List, [], ◌∷◌, length, get_or, drop, drop-cons, refl, ap, subst, ◌∙◌, arith, Some, None, ◌⊎◌, inl, inr, All}
 use Rattle.std.specs.Prelude.{Bool, true, false, cond, ◌&&◌, ◌||◌, eqb}
 use Rattle.std.specs.Option.{option_or}
 use Rattle.std.proofs.lemmas.List.Elements.{All-head, All-tail}
-use Rattle.std.proofs.lemmas.Bool.{true≢false, ne_eqb, eqb-true, cases_lt, and_parts}
+use Rattle.std.proofs.lemmas.Bool.{ne_eqb, eqb-true, cases_lt, and_parts}
 use Rattle.pa_a64.specs.Decoding.{decoded}
 use Rattle.pa_fixups.specs.declared.kind.Fix.{Fix}
 use Rattle.pa_fixups.specs.Chain.{Rising}
 use Rattle.pa_slots.specs.Pages.{AreRising}
 use Rattle.pa_check.specs.declared.rule.CheckRule.{CheckRule}
-use Rattle.pa_check.specs.declared.rule.Flaw.{Flaw}
 use Rattle.pa_check.specs.Text.{Text}
 use Rattle.pa_check.specs.Rules.{stub_rule}
 use Rattle.pa_check.specs.Slots.{is_import, has_import, first_no_import, may_hold, first_unsafe, no_fix}

@@ -1,14 +1,14 @@
 -- Windows by one pass with an open window are the intervals.
-use Rattle.std.proofs.Common.{◌≡◌, ℕ, zero, suc, ◌+◌, ◌≤◌, ◌<◌, List, [], ◌∷◌, length, get_or, drop, drop-cons, refl, sym, ap, subst, ◌∙◌, arith, Option, Some, None}
+use Rattle.std.proofs.Common.{◌≡◌, ℕ, zero, suc, ◌+◌, ◌≤◌, ◌<◌, List, [], ◌∷◌, length, drop, drop-cons, refl, sym, ap, subst, ◌∙◌, arith, Option, Some, None}
 use Rattle.std.specs.Prelude.{Bool, true, false, cond, not, ◌&&◌, slice_get}
-use Rattle.std.proofs.lemmas.Bool.{true≢false, and_right}
+use Rattle.std.proofs.lemmas.Bool.{and_right}
 use Rattle.pa_check.specs.declared.word.Word.{Word}
 use Rattle.pa_check.specs.declared.window.Opening.{Opening}
-use Rattle.pa_check.specs.declared.window.Opening.TheVariants.{Taken, Made}
+use Rattle.pa_check.specs.declared.window.Opening.TheVariants.{Taken}
 use Rattle.pa_check.specs.declared.window.Window.{Window}
 use Rattle.pa_check.specs.Text.{Text, word_at, behind, IsFunction}
-use Rattle.pa_check.specs.Windows.{is_last_of, is_over, reach, Spot, spot, begun, reach_of, opening_or, opened_at, spots, all_spots}
-use Rattle.pa_check.specs.Passing.{goes_on, farther, window_behind, window_round, passed, spot_at, round_at, open_behind, IsPassed}
+use Rattle.pa_check.specs.Windows.{is_last_of, is_over, reach, spot, begun, reach_of, opening_or, opened_at, spots, all_spots}
+use Rattle.pa_check.specs.Passing.{goes_on, farther, window_behind, passed, spot_at, round_at, open_behind, IsPassed}
 
 abbrev open_in : Opening → ℕ → List Word → Option Window
 open_in c d ws = cond (not (is_over ws)) (Some (record { opening = c; behind = d })) None

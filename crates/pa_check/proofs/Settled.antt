@@ -1,13 +1,13 @@
 -- Where no window is open: behind a word that ends any, and behind eight words that open none.
 use Rattle.std.proofs.Common.{◌≡◌, ℕ, zero, suc, ◌+◌, ◌-◌, ◌≤◌, ◌<◌, List, [], ◌∷◌, length, drop, refl, sym, ap, subst, ◌∙◌, arith, Option, Some, None, ◌⊎◌, inl, inr}
 use Rattle.std.specs.Prelude.{IfSome, Bool, true, false, cond, not, ◌&&◌, ◌||◌, leb, ltb, eqb}
-use Rattle.std.proofs.lemmas.Bool.{true≢false, and_parts, and_right, not-true, le-leb, cases_lt}
+use Rattle.std.proofs.lemmas.Bool.{true≢false, and_parts, not-true, le-leb, cases_lt}
 use Rattle.pa_num.specs.Arithmetic.{add64}
 use Rattle.pa_a64.specs.declared.instr.Instr.{Instr}
 use Rattle.pa_a64.specs.declared.instr.Instr.TheVariants as i
 use Rattle.pa_a64.specs.declared.instr.SumImmediateOp.TheVariants as immediate
-use Rattle.pa_a64.specs.declared.instr.AuthenticateOp.TheVariants.{Autia, Autib, Autda, Autdb}
-use Rattle.pa_a64.specs.declared.instr.PlainOp.TheVariants.{Paciza, Autiza, Xpaci}
+use Rattle.pa_a64.specs.declared.instr.AuthenticateOp.TheVariants.{Autia}
+use Rattle.pa_a64.specs.declared.instr.PlainOp.TheVariants.{Autiza}
 use Rattle.pa_object.specs.Effects.{immediate_of}
 use Rattle.pa_check.specs.declared.word.Word.{Word}
 use Rattle.pa_check.specs.declared.window.Opening.{Opening}
@@ -16,8 +16,8 @@ use Rattle.pa_check.specs.declared.window.Window.{Window}
 use Rattle.pa_check.specs.Rows.{is_pair, closes, may_stand, may_open, may_make, ends_any}
 use Rattle.pa_check.specs.Text.{Text, place, word_at, behind, is_entry, page, IsFunction}
 use Rattle.pa_check.specs.Windows.{is_zero, made_by, opened_by, opened_at, opening_words, is_last_of, is_over, next_in, begun}
-use Rattle.pa_check.specs.Passing.{goes_on, farther, window_behind, window_round, round_at, open_behind, IsPassed}
-use Rattle.pa_check.proofs.Passes.{some_same, words_at, first_at, passed_next, home}
+use Rattle.pa_check.specs.Passing.{goes_on, farther, round_at, open_behind, IsPassed}
+use Rattle.pa_check.proofs.Passes.{words_at, first_at, passed_next, home}
 
 -- a window that is open was opened at most eight words before
 pub record Opened (t : Text) (first k : ℕ) (r : Window) : Type 0 where

@@ -1,6 +1,7 @@
 -- Windows by one pass with an open window.
-use Rattle.std.specs.Prelude.{◌≡◌, drop, length, min, slice_get, ℕ, suc, Bool, false, not, ◌&&◌, ◌||◌, if◌then◌else◌, List, [], ◌∷◌, Option, Some, None}
+use Rattle.std.specs.Prelude.{◌≡◌, ◌≤◌, drop, length, min, slice_get, ℕ, suc, Bool, true, false, not, ◌&&◌, ◌||◌, if◌then◌else◌, List, [], ◌∷◌, Option, Some, None}
 use Rattle.pa_a64.specs.declared.instr.Instr.{Instr}
+use Rattle.pa_a64.specs.declared.instr.Instr.TheVariants as i
 use Rattle.pa_check.specs.declared.word.Word.{Word}
 use Rattle.pa_check.specs.declared.window.Window.{Window}
 use Rattle.std.specs.Option.{option_map_or}
@@ -52,9 +53,42 @@ open_behind text k here = window_behind here (word_at text k).instr (behind text
 abbrev pub IsPassed : Text → (k first : ℕ) → Option Window → Type 0
 IsPassed text k first current = passed text k first current (drop k text.words) ≡ drop k (all_spots text)
 
+-- no window is open before word `at` of a function that begins with word `first`
+pub record IsSettled (text : Text) (first at : ℕ) : Type 0 where
+  pub from : first ≤ at
+  pub passed : IsPassed text at first None
+
+-- computes, loads or stores: such a word opens no window, and breaks no rule where
+-- none is open and it is neither the first nor the last of its function
+abbrev pub is_plain : Option Instr → Bool
+is_plain (Some (i.MoveWide op rd imm hw)) = true
+is_plain (Some (i.SumImmediate op rd rn imm shifted)) = true
+is_plain (Some (i.SubsImmediate rd rn imm shifted)) = true
+is_plain (Some (i.Sum op rd rn rm)) = true
+is_plain (Some (i.Logical op rd rn rm)) = true
+is_plain (Some (i.MultiplyAdd op rd rn rm ra)) = true
+is_plain (Some (i.Divide op rd rn rm)) = true
+is_plain (Some (i.Shift op rd rn rm)) = true
+is_plain (Some (i.Bitfield op rd rn immr imms)) = true
+is_plain (Some (i.Csinc rd rn rm condition)) = true
+is_plain (Some i.Nop) = true
+is_plain (Some (i.LoadStore op rt rn imm)) = true
+is_plain (Some (i.LoadStoreWord op rt rn imm)) = true
+is_plain (Some (i.LoadStoreHalf op rt rn imm)) = true
+is_plain (Some (i.LoadStoreByte op rt rn imm)) = true
+is_plain (Some (i.LoadStoreUnscaled op rt rn imm)) = true
+is_plain (Some (i.LoadStorePair op rt rt2 rn imm)) = true
+is_plain other = false
+
 -- the rule that a word of a function breaks with this window round it
 abbrev pub rule_at : Text → (k first : ℕ) → Option Window → Option CheckRule
 rule_at text k first window = function_rule text (all_spots text) k (spot_at text k first window)
+
+-- word k of a function, with this window open before it, breaks no rule, and none is open before it and behind it
+pub record IsInert (text : Text) (k first : ℕ) (current : Option Window) : Type 0 where
+  pub closed : current ≡ None
+  pub rule : rule_at text k first (round_at text k current) ≡ None
+  pub behind : open_behind text k (round_at text k current) ≡ None
 
 -- where the function of this number begins, or the text ends
 abbrev pub function_start : List Mark → (len : ℕ) → (i : ℕ) → ℕ

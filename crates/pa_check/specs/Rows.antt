@@ -5,12 +5,12 @@ use Rattle.pa_a64.specs.declared.instr.Instr.TheVariants as i
 use Rattle.pa_a64.specs.declared.instr.SumImmediateOp.TheVariants as immediate
 use Rattle.pa_a64.specs.declared.instr.BranchOp.TheVariants.{B, Bl}
 use Rattle.pa_a64.specs.declared.instr.BranchRegisterOp.TheVariants.{Br, Blr, Ret}
-use Rattle.pa_a64.specs.declared.instr.BranchAuthenticatedOp.TheVariants.{Braa, Blraa, Blrab}
+use Rattle.pa_a64.specs.declared.instr.BranchAuthenticatedOp.TheVariants.{Braa, Blrab}
 use Rattle.pa_a64.specs.declared.instr.StackOp.TheVariants.{Retab, Pacibsp, Autibsp}
 use Rattle.pa_a64.specs.declared.instr.SignOp.TheVariants.{Pacia, Pacib, Pacda, Pacdb}
 use Rattle.pa_a64.specs.declared.instr.AuthenticateOp.TheVariants.{Autia, Autib, Autda, Autdb}
 use Rattle.pa_a64.specs.declared.instr.PlainOp.TheVariants.{Paciza, Autiza, Xpaci}
-use Rattle.pa_a64.specs.declared.instr.ExceptionOp.TheVariants.{Svc, Brk}
+use Rattle.pa_a64.specs.declared.instr.ExceptionOp.TheVariants.{Brk}
 
 -- ---- in a window
 

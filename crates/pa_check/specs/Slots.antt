@@ -1,5 +1,5 @@
 -- The rule K5: what the slots of __DATA may hold (mach-o/fixup-chains.h).
-use Rattle.std.specs.Prelude.{ℕ, zero, suc, ◌+◌, ◌-◌, Bool, true, false, not, ◌&&◌, ◌||◌, ◌==◌, nat_lt, if◌then◌else◌, List, [], ◌∷◌, Option, Some, None}
+use Rattle.std.specs.Prelude.{ℕ, zero, suc, ◌+◌, ◌-◌, Bool, false, not, ◌&&◌, ◌||◌, ◌==◌, nat_lt, if◌then◌else◌, List, [], ◌∷◌, Option, Some, None}
 use Rattle.pa_pac.specs.declared.key.Key.TheVariants.{IA}
 use Rattle.pa_pac.specs.Key.{same_key}
 use Rattle.pa_fixups.specs.declared.kind.Fix.{Fix}

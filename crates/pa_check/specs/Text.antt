@@ -1,6 +1,6 @@
 -- The code of an image: its words with their marks, and where its stubs stand. Places are offsets from the image's first
 -- byte, so that they hold wherever it is loaded.
-use Rattle.std.specs.Prelude.{◌≡◌, ◌≤◌, ◌<◌, drop, ℕ, zero, suc, ◌+◌, ◌-◌, ◌*◌, ◌/◌, ◌%◌, Bool, true, false, ◌&&◌, ◌||◌, ◌==◌, nat_le, nat_lt, if◌then◌else◌, ℤ, List, [], ◌∷◌, length, slice_get, slice_index_or, Option, Some, None, codes}
+use Rattle.std.specs.Prelude.{◌≡◌, ◌≤◌, ◌<◌, drop, ℕ, suc, ◌+◌, ◌-◌, ◌*◌, ◌/◌, ◌%◌, Bool, true, false, ◌&&◌, ◌||◌, ◌==◌, nat_le, nat_lt, if◌then◌else◌, ℤ, List, [], ◌∷◌, length, slice_get, slice_index_or, Option, Some, None, codes}
 use Rattle.pa_num.specs.Arithmetic.{add64, scaled64}
 use Rattle.pa_a64.specs.Decoding.{decoded}
 use Rattle.pa_macho.specs.declared.header.Role.{Role}

@@ -1,5 +1,5 @@
 -- Which images are windowed, and where another one is broken first.
-use Rattle.std.specs.Prelude.{◌≡◌, drop, ℕ, zero, suc, ◌+◌, ◌*◌, ◌/◌, nat_lt, if◌then◌else◌, List, [], ◌∷◌, length, Option, Some, None}
+use Rattle.std.specs.Prelude.{◌≡◌, drop, ℕ, suc, ◌+◌, ◌*◌, ◌/◌, nat_lt, if◌then◌else◌, List, [], ◌∷◌, length, Option, Some, None}
 use Rattle.std.specs.Option.{option_or}
 use Rattle.pa_a64.specs.Decoding.{decoded}
 use Rattle.pa_macho.specs.Layout.{base_of, places_of}

@@ -141,8 +141,8 @@ fn flaw_at(image: &Image, stubs: u64, from: u64) -> Option<Flaw>
 
 /// Whether an image is windowed, so that its control flow is kept whatever is written to its memory, or the first place
 /// where it breaks a rule: the words of `__text` by number, those of `__auth_stubs`, and then the slots of `__DATA`. It takes
-/// no memory. Where windows are whole its time is in proportion to the image's words, and for calls and pointers to functions
-/// to the logarithm of their number; where windows are broken one after another, a branch into such a run walks it.
+/// no memory, and time in proportion to the image's words, and for calls and pointers to functions to the logarithm of their
+/// number.
 pub fn check(image: &Image) -> Verdict
     requires { IsLegal image.now }
     ensures { result ≡ verdict_of (first_flaw image.now) }

@@ -2,6 +2,7 @@
 #![tactic(auto)]
 
 mod checker;
+mod inside;
 mod marks;
 mod pass;
 mod rows;

@@ -1,14 +1,17 @@
-ghost use Rattle.std.specs.Prelude.{◌≡◌, ◌<◌, ◌≤◌, ◌^◌, length, ℕ, Option, IfNone};
+ghost use Rattle.std.specs.Prelude.{◌≡◌, ◌<◌, ◌≤◌, ◌+◌, ◌^◌, ◌&&◌, length, nat_lt, ℕ, All, Option, IfNone};
+ghost use Rattle.std.specs.Bool.{OnTrue};
 ghost use Rattle.std.specs.Option.{option_or};
 ghost use Rattle.pa_image.specs.Writing.{IsLegal};
 ghost use Rattle.pa_check.specs.Text as spec;
-ghost use Rattle.pa_check.specs.Text.{text_of, is_marked, IsFunction};
+ghost use Rattle.pa_check.specs.Text.{text_of, is_marked, word_at, IsFunction};
 ghost use Rattle.pa_check.specs.declared.window.Window.{Window};
 ghost use Rattle.pa_check.specs.Rules as rules;
-ghost use Rattle.pa_check.specs.Passing.{spot_at, start_in, start_words};
+ghost use Rattle.pa_check.specs.Passing.{IsInert, IsSettled, spot_at, start_in, start_words};
 ghost use Rattle.pa_check.specs.Windowed.{flaw_from, cut_start};
 
+use crate::inside::{Places, keep_places};
 use crate::marks::main_of;
+use crate::rows::is_plain;
 use crate::rule::{CheckRule, Flaw};
 use crate::rules::{function_rule, given_rule};
 use crate::text::{Function, instr_at, place, target, window_behind, window_round};
@@ -17,23 +20,58 @@ use pa_a64::{BranchOp, ExceptionOp, Instr};
 use pa_image::Image;
 use pa_macho::Role;
 
+/// Whether word `k` is neither the first nor the last of its function.
+fn is_between(function: Function, k: usize) -> bool
+    requires { k < function.end }
+    ensures { result ≡ (nat_lt function.first k && nat_lt (k + 1) function.end) }
+{
+    function.first < k && k + 1 < function.end
+}
+
+/// Whether it is plain that word `k` breaks no rule: no window is open, and it computes, loads or stores inside its function.
+/// Most words of most functions do.
+fn breaks_nothing(
+    image: &Image,
+    function: Function,
+    k: usize,
+    instr: Option<Instr>,
+    current: Option<Window>,
+) -> bool
+    requires function { IsFunction (text_of image.now) function.first function.end }
+    requires from { function.first ≤ k }
+    requires to { k < function.end }
+    requires instr { instr ≡ (word_at (text_of image.now) k).instr }
+    ensures { OnTrue result (IsInert (text_of image.now) k function.first current) }
+{
+    let _ = image;
+    match current {
+        None if is_between(function, k) => is_plain(instr),
+        _ => false,
+    }
+}
+
 /// The first word of a function that breaks a rule.
-fn function_flaw(image: &Image, stubs: u64, function: Function) -> Option<Flaw>
+fn function_flaw(image: &Image, stubs: u64, function: Function, places: &[u32]) -> Option<Flaw>
     requires legal { IsLegal image.now }
     requires stubs { stubs ≡ (text_of image.now).stubs }
     requires function { IsFunction (text_of image.now) function.first function.end }
+    requires places { All (IsSettled (text_of image.now) function.first) places.now }
     ensures { flaw_from (text_of image.now) function.first ≡ option_or result (flaw_from (text_of image.now) function.end) }
 {
     let mut current: Option<Window> = None;
     for k in function.first..function.end {
-        let here = window_round(image, function, k, current);
-        if let Some(rule) = function_rule(image, stubs, function, k, instr_at(image, k), here) {
+        let instr = instr_at(image, k);
+        if breaks_nothing(image, function, k, instr, current) {
+            continue;
+        }
+        let here = window_round(image, function, k, instr, current);
+        if let Some(rule) = function_rule(image, stubs, function, places, k, instr, here) {
             return Some(Flaw {
                 offset: place(k),
                 rule,
             });
         }
-        current = window_behind(image, function, k, here);
+        current = window_behind(image, function, k, instr, here);
     }
     None
 }
@@ -147,12 +185,14 @@ fn functions_flaw(image: &Image, stubs: u64) -> Option<Flaw>
     requires behind { start_words image.now ≤ start_in image.now 0 }
     ensures { flaw_from (text_of image.now) (start_in image.now 0) ≡ result }
 {
+    let mut places = Places::new();
     for i in 0..image.marks.len() {
         let function = Function {
             first: function_start(image, i),
             end: function_start(image, i + 1),
         };
-        let flaw = function_flaw(image, stubs, function);
+        keep_places(image, function, &mut places);
+        let flaw = function_flaw(image, stubs, function, places.as_slice());
         if flaw.is_some() {
             return flaw;
         }

@@ -1,4 +1,5 @@
 ghost use Rattle.std.specs.Prelude.{◌≡◌, ◌&&◌};
+ghost use Rattle.pa_check.specs.Passing as passing;
 ghost use Rattle.pa_check.specs.Rows as rows;
 
 use pa_a64::{
@@ -331,4 +332,32 @@ pub(crate) fn ends_any(instr: Option<Instr>) -> bool
     ensures { result ≡ rows.ends_any instr }
 {
     !may_stand(instr) && !may_open(instr) && !may_make(instr)
+}
+
+/// Whether a word computes, loads or stores, but for ADRP.
+pub(crate) fn is_plain(instr: Option<Instr>) -> bool
+    ensures { result ≡ passing.is_plain instr }
+{
+    match instr {
+        Some(
+            Instr::MoveWide { .. }
+            | Instr::SumImmediate { .. }
+            | Instr::SubsImmediate { .. }
+            | Instr::Sum { .. }
+            | Instr::Logical { .. }
+            | Instr::MultiplyAdd { .. }
+            | Instr::Divide { .. }
+            | Instr::Shift { .. }
+            | Instr::Bitfield { .. }
+            | Instr::Csinc { .. }
+            | Instr::Nop
+            | Instr::LoadStore { .. }
+            | Instr::LoadStoreWord { .. }
+            | Instr::LoadStoreHalf { .. }
+            | Instr::LoadStoreByte { .. }
+            | Instr::LoadStoreUnscaled { .. }
+            | Instr::LoadStorePair { .. },
+        ) => true,
+        _ => false,
+    }
 }

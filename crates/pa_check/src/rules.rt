@@ -1,18 +1,19 @@
-ghost use Rattle.std.specs.Prelude.{◌≡◌, ◌<◌, ◌≤◌, ◌^◌, ◌&&◌, ◌||◌, not};
+ghost use Rattle.std.specs.Prelude.{◌≡◌, ◌<◌, ◌≤◌, ◌^◌, ◌&&◌, ◌||◌, All, not};
 ghost use Rattle.pa_image.specs.Writing.{IsLegal};
 ghost use Rattle.pa_check.specs.Text as spec;
 ghost use Rattle.pa_check.specs.Text.{text_of, word_at, IsFunction};
 ghost use Rattle.pa_check.specs.Windows.{all_spots};
 ghost use Rattle.pa_check.specs.Rules as rules;
-ghost use Rattle.pa_check.specs.Passing.{rule_at};
+ghost use Rattle.pa_check.specs.Passing.{IsSettled, rule_at};
 ghost use Rattle.pa_check.specs.Rows as rows;
 
+use crate::inside::is_inside_at;
 use crate::rows::{
     branch_words, call_words, is_forbidden, is_misplaced, is_pacibsp, is_stray_branch,
     is_stray_return, may_be_last, signs_code,
 };
 use crate::rule::CheckRule;
-use crate::text::{Function, is_entry, is_inside_at, number_at, place, target};
+use crate::text::{Function, is_entry, number_at, place, target};
 use crate::window::{Window, window_broken, window_calls};
 use pa_a64::Instr;
 use pa_image::Image;
@@ -73,25 +74,35 @@ fn leaves_function(function: Function, at: u64, instr: Option<Instr>) -> bool
 }
 
 /// Whether word `k` of the function is in a window, behind the first word of each.
-fn lands_inside(image: &Image, function: Function, k: Option<usize>) -> bool
+fn lands_inside(image: &Image, function: Function, places: &[u32], k: Option<usize>) -> bool
     requires legal { IsLegal image.now }
     requires function { IsFunction (text_of image.now) function.first function.end }
+    requires places { All (IsSettled (text_of image.now) function.first) places.now }
     ensures { result ≡ rules.lands_inside (all_spots (text_of image.now)) function.first function.end k }
 {
     match k {
-        Some(k) => function.first < k && k < function.end && is_inside_at(image, function, k),
+        Some(k) => function.first < k
+            && k < function.end
+            && is_inside_at(image, function, k, places),
         None => false,
     }
 }
 
 /// Whether a branch at this place leads into a window of the function behind its first word.
-fn enters_window(image: &Image, function: Function, at: u64, instr: Option<Instr>) -> bool
+fn enters_window(
+    image: &Image,
+    function: Function,
+    places: &[u32],
+    at: u64,
+    instr: Option<Instr>,
+) -> bool
     requires legal { IsLegal image.now }
     requires function { IsFunction (text_of image.now) function.first function.end }
+    requires places { All (IsSettled (text_of image.now) function.first) places.now }
     ensures { result ≡ rules.enters_window (all_spots (text_of image.now)) function.first function.end at instr }
 {
     match branch_words(instr) {
-        Some(words) => lands_inside(image, function, number_at(target(at, words))),
+        Some(words) => lands_inside(image, function, places, number_at(target(at, words))),
         None => false,
     }
 }
@@ -145,6 +156,7 @@ pub(crate) fn function_rule(
     image: &Image,
     stubs: u64,
     function: Function,
+    places: &[u32],
     k: usize,
     instr: Option<Instr>,
     window: Option<Window>,
@@ -152,6 +164,7 @@ pub(crate) fn function_rule(
     requires legal { IsLegal image.now }
     requires stubs { stubs ≡ (text_of image.now).stubs }
     requires function { IsFunction (text_of image.now) function.first function.end }
+    requires places { All (IsSettled (text_of image.now) function.first) places.now }
     requires from { function.first ≤ k }
     requires to { k < function.end }
     requires small { k < 2 ^ 60 }
@@ -161,7 +174,7 @@ pub(crate) fn function_rule(
     let at = place(k);
     let marked = k == function.first;
     let leaves = leaves_function(function, at, instr);
-    let enters = enters_window(image, function, at, instr);
+    let enters = enters_window(image, function, places, at, instr);
     lowest(
         begins_badly(marked, instr),
         either(leaves, calls_elsewhere(image, stubs, at, instr)),

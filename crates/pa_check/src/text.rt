@@ -1,16 +1,15 @@
-ghost use Rattle.std.specs.Prelude.{◌≡◌, ◌<◌, ◌≤◌, ◌+◌, ◌*◌, ◌^◌, length, slice_get, IfSome, None};
+ghost use Rattle.std.specs.Prelude.{◌≡◌, ◌<◌, ◌≤◌, ◌+◌, ◌*◌, ◌^◌, length, IfSome};
 ghost use Rattle.pa_num.specs.Arithmetic.{add64, wrap};
 ghost use Rattle.pa_image.specs.Writing.{IsLegal};
 ghost use Rattle.pa_check.specs.Text as spec;
 ghost use Rattle.pa_check.specs.Text.{text_of, word_at, behind, IsFunction};
 ghost use Rattle.pa_check.specs.Windows as windows;
-ghost use Rattle.pa_check.specs.Windows.{all_spots, next_in};
-ghost use Rattle.pa_check.specs.Passing.{round_at, open_behind, IsPassed};
-ghost use Rattle.pa_check.specs.Rules.{inside_in};
+ghost use Rattle.pa_check.specs.Windows.{next_in};
+ghost use Rattle.pa_check.specs.Passing.{round_at, open_behind};
 
 use crate::marks::is_marked;
-use crate::rows::{ADDRESS, POINTER, ends_any, may_open};
-use crate::window::{MOST, Opening, Window, begun, farther, goes_on, is_inside};
+use crate::rows::{ADDRESS, POINTER};
+use crate::window::{Opening, Window, begun, farther, goes_on};
 use pa_a64::{AuthenticateOp, Instr, PlainOp, SumImmediateOp, decode};
 use pa_alu::{immediate, scaled};
 use pa_image::Image;
@@ -174,17 +173,19 @@ pub(crate) fn window_round(
     image: &Image,
     function: Function,
     k: usize,
+    instr: Option<Instr>,
     current: Option<Window>,
 ) -> Option<Window>
     requires legal { IsLegal image.now }
     requires function { IsFunction (text_of image.now) function.first function.end }
     requires from { function.first ≤ k }
     requires to { k < function.end }
+    requires instr { instr ≡ (word_at (text_of image.now) k).instr }
     ensures { result ≡ round_at (text_of image.now) k current }
 {
     match current {
         Some(window) => Some(window),
-        None => begun(opened_by(image, function, k, instr_at(image, k))),
+        None => begun(opened_by(image, function, k, instr)),
     }
 }
 
@@ -193,57 +194,20 @@ pub(crate) fn window_behind(
     image: &Image,
     function: Function,
     k: usize,
+    instr: Option<Instr>,
     here: Option<Window>,
 ) -> Option<Window>
     requires function { IsFunction (text_of image.now) function.first function.end }
     requires from { function.first ≤ k }
     requires to { k < function.end }
+    requires instr { instr ≡ (word_at (text_of image.now) k).instr }
     requires short { IfSome here (λ w. w.behind < 2 ^ 63) }
     ensures { result ≡ open_behind (text_of image.now) k here }
 {
-    if goes_on(here, instr_at(image, k)) && k + 1 < function.end {
+    let _ = image;
+    if goes_on(here, instr) && k + 1 < function.end {
         farther(here)
     } else {
         None
     }
-}
-
-/// The nearest word up to this one of a function before which no window is open.
-fn settled(image: &Image, function: Function, k: usize) -> usize
-    requires function { IsFunction (text_of image.now) function.first function.end }
-    requires from { function.first ≤ k }
-    requires to { k < function.end }
-    ensures from { function.first ≤ result }
-    ensures to { result ≤ k }
-    ensures passed { IsPassed (text_of image.now) result function.first None }
-{
-    let mut settled = k;
-    let mut before = k;
-    while function.first < before && settled - before < MOST {
-        before -= 1;
-        let instr = instr_at(image, before);
-        if ends_any(instr) {
-            return before + 1;
-        }
-        if may_open(instr) {
-            settled = before;
-        }
-    }
-    settled
-}
-
-/// Whether a word of a function is in a window, behind its first word.
-pub(crate) fn is_inside_at(image: &Image, function: Function, k: usize) -> bool
-    requires legal { IsLegal image.now }
-    requires function { IsFunction (text_of image.now) function.first function.end }
-    requires from { function.first < k }
-    requires to { k < function.end }
-    ensures { result ≡ inside_in (slice_get (all_spots (text_of image.now)) k) }
-{
-    let mut current: Option<Window> = None;
-    for before in settled(image, function, k)..k {
-        let here = window_round(image, function, before, current);
-        current = window_behind(image, function, before, here);
-    }
-    is_inside(window_round(image, function, k, current))
 }

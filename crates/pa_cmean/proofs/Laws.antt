@@ -1,7 +1,7 @@
 -- A job is what it is made of, and with more work the meaning goes on where it stopped.
 use Rattle.std.proofs.Common.{◌≡◌, ℕ, zero, suc, ◌+◌, ◌<◌, ◌≤◌, List, [], ◌∷◌, ◌++◌, Option, Some, None, refl, sym, ap, arith}
 use Rattle.std.specs.Prelude.{ℤ, Bool, true, false, if◌then◌else◌}
-use Rattle.pa_cmean.specs.Integers.{is_in_range}
+use Rattle.pa_integer.specs.Integers.{is_in_range}
 use Rattle.pa_ctype.specs.Traces.{Seen, Enter}
 use Rattle.pa_ctype.specs.Values as value
 use Rattle.pa_ctype.specs.Values.{CValue, At, Code, Null, Objects}

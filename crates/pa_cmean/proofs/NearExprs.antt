@@ -9,7 +9,7 @@ use Rattle.pa_ctype.specs.Traces.{Under}
 use Rattle.pa_ctype.specs.Values as value
 use Rattle.pa_ctype.specs.Values.{Place, Owner, CValue, At, Code, Null, Global, Text}
 use Rattle.pa_typed.specs.Typed.{TypedExpr, TypedExprs, LocalPlace, GlobalPlace, StringPlace, Same, Member, Index, Deref, Number, Load, LoadSigned, Store, StoreSigned, AddressOf, FunctionValue, Convert, Unary, Binary, PointerAdd, PointerSub, Compare, And, Or, Choose, Comma, CallDirect, CallPointer, NoTExprs, ConsTExpr}
-use Rattle.pa_cmean.specs.Integers.{residue}
+use Rattle.pa_integer.specs.Integers.{residue}
 use Rattle.pa_cmean.specs.Results.{Meaning, shown}
 use Rattle.pa_typed.specs.Units.{FunctionTree, ProgramTree, function_named}
 use Rattle.pa_cmean.specs.Operations.{truth, of_truth, nothing, converted, literal, unary, binary, moved, bytes_of, stepped, opposite, pointee, pointed, difference, compared}

@@ -4,7 +4,7 @@ use Rattle.std.specs.Prelude.{ℤ, pos, slice_get}
 use Rattle.pa_ctype.specs.Values as value
 use Rattle.pa_ctype.specs.Values.{Place, Owner, CValue, At, Code, Null, Cell, cells_in}
 use Rattle.pa_typed.specs.Typed.{TypedExpr, TypedInitial, TypedLocalInit, TypedForStart, Declares, Evaluates, TypedStmt, TypedStmts, Compound, InitLocal, Expression, If, IfElse, While, DoWhile, For, Switch, Case, Default, Break, Continue, Return, NoTStmts, ConsTStmt}
-use Rattle.pa_cmean.specs.Integers.{same_int}
+use Rattle.pa_integer.specs.Integers.{same_int}
 use Rattle.pa_cmean.specs.Results.{Meaning}
 use Rattle.pa_typed.specs.Units.{ProgramTree}
 use Rattle.pa_cmean.specs.Operations.{truth, nothing, converted, bytes_of}

@@ -6,7 +6,7 @@ use Rattle.pa_typed.specs.declared.expr.BinaryOperation.TheVariants.{Multiply, D
 use Rattle.pa_typed.specs.declared.expr.Comparison.TheVariants.{Less, Equal}
 use Rattle.pa_ctype.specs.Types.{Of, Void, Boolean, Integer, Pointer}
 use Rattle.pa_ctype.specs.Values.{Number, Code, Null}
-use Rattle.pa_cmean.specs.Integers.{wrapped, arithmetic, negated, complemented, compares}
+use Rattle.pa_integer.specs.Integers.{wrapped, arithmetic, negated, complemented, compares}
 use Rattle.pa_cmean.specs.Operations.{converted, literal}
 
 -- the number -n

@@ -9,7 +9,7 @@ use Rattle.pa_ctype.specs.Equality.{same_but_const}
 use Rattle.pa_ctype.specs.Traces.{Under, Load, Call}
 use Rattle.pa_ctype.specs.Values.{Place, CValue, Number, Code}
 use Rattle.pa_typed.specs.Typed.{TypedExpr, LoadSigned}
-use Rattle.pa_cmean.specs.Integers.{residue}
+use Rattle.pa_integer.specs.Integers.{residue}
 use Rattle.pa_cmean.specs.Results.{Meaning, undefined, printed, shown, entered}
 use Rattle.pa_typed.specs.Units.{FunctionTree, ProgramTree, function_named}
 use Rattle.pa_cmean.specs.Operations.{nothing}

@@ -2,7 +2,6 @@ pub mod Calls
 pub mod ExprTypes
 pub mod Expressions
 pub mod Finding
-pub mod Integers
 pub mod Mean
 pub mod Operations
 pub mod Results

@@ -1,7 +1,7 @@
 -- What a program does with an input and so much work (C11 5.1.2.3): it calls `main`, whose value is the status.
 use Rattle.std.specs.Prelude.{ℕ, zero, suc, true, if◌then◌else◌, List, [], None}
 use Rattle.pa_ctype.specs.Values.{Number, Objects}
-use Rattle.pa_cmean.specs.Integers.{is_in_range}
+use Rattle.pa_integer.specs.Integers.{is_in_range}
 use Rattle.pa_cmean.specs.Results.{Meaning, ends, undefined, Done, Stop, given}
 use Rattle.pa_typed.specs.Units.{ProgramTree}
 use Rattle.pa_cmean.specs.State.{World, Cont, Body, Turn, Redo, Again}

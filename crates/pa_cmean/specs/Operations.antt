@@ -10,7 +10,7 @@ use Rattle.pa_ctype.specs.Types.{TypeTree, Of, FormTree, Void, Boolean, Integer,
 use Rattle.pa_ctype.specs.Equality.{same_bool}
 use Rattle.pa_ctype.specs.Layouts.{Table, layout_in}
 use Rattle.pa_ctype.specs.Values.{Place, CValue, Number, At, Code, Null, Object, Objects, same_owner, object_of, is_in_object}
-use Rattle.pa_cmean.specs.Integers.{is_zero, is_width, wrapped, arithmetic, negated, complemented, compares}
+use Rattle.pa_integer.specs.Integers.{is_zero, is_width, wrapped, arithmetic, negated, complemented, compares}
 
 -- a value that isn't 0 or null (6.3.1.2, 6.5.3.3, 6.5.13, 6.8.4.1); the place of a dead object too
 abbrev pub truth : CValue → Bool

@@ -5,7 +5,7 @@ use Rattle.pa_ctype.specs.Layouts.{Table}
 use Rattle.pa_ctype.specs.Values as value
 use Rattle.pa_ctype.specs.Values.{Owner, Global, Text, Place, CValue, At, Code, Cell, Object, Objects, fresh, initialised}
 use Rattle.pa_typed.specs.Typed.{TypedExpr, GlobalPlace, StringPlace, Member, Index, Deref, Number, AddressOf, FunctionValue, Convert, Unary, Binary, PointerAdd, Compare, And, Or, Choose}
-use Rattle.pa_cmean.specs.Integers.{wrapped}
+use Rattle.pa_integer.specs.Integers.{wrapped}
 use Rattle.pa_typed.specs.Units.{CellTree, GlobalTree, ProgramTree}
 use Rattle.pa_cmean.specs.Operations.{truth, of_truth, converted, literal, unary, binary, moved, stepped, opposite, pointee, pointed, compared}
 use Rattle.pa_cmean.specs.State.{start}

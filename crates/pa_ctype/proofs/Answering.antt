@@ -4,6 +4,7 @@ use Rattle.std.specs.Option.{option_and_then}
 use Rattle.std.specs.Int.{next_multiple_of}
 use Rattle.std.specs.Str.{bytes_eq}
 use Rattle.std.specs.List.{slice_get}
+use Rattle.std.proofs.lemmas.List.{length-map}
 use Rattle.std.proofs.lemmas.Bool.{eqb-true, eq-eqb}
 use Rattle.std.proofs.lemmas.Slice.Eq.{bytes_eq-Decides}
 use Rattle.indexmap.specs.IndexMap.{get}
@@ -13,16 +14,20 @@ use Rattle.pa_ctype.specs.declared.ctype.Member.{Member}
 use Rattle.pa_ctype.specs.declared.node.Node.{Node}
 use Rattle.pa_ctype.specs.declared.node.Facts.{Facts}
 use Rattle.pa_ctype.specs.declared.structs.LaidBody.{LaidBody}
-use Rattle.pa_ctype.specs.Types.{TypeTree, Of, Struct}
-use Rattle.pa_ctype.specs.Nodes.{at, Fits}
+use Rattle.pa_ctype.specs.Types.{TypeTree, Of, Struct, array_of}
+use Rattle.pa_ctype.specs.Nodes.{at, tree, Below, Fits}
+use Rattle.pa_ctype.specs.declared.node.Node.TheVariants as variant
+use Rattle.pa_ctype.specs.Bounds.{is_formed, is_formed_by, IsStructOf, HoldsComplete}
 use Rattle.pa_ctype.specs.Tables.{TypeTable, AreApart, ForStructs, ForNamed, types_bound, names_bound}
 use Rattle.pa_ctype.specs.Kept.{members_of, kept_body, kept_layout, AreFine, AreTypes, IsKeptBody, unnamed, lay, place_from}
-use Rattle.pa_ctype.specs.Layouts.{Body, Table, body_of, placed, empty, padded, members_from, struct_layout, layout_by, form_layout_by, laid, layout_in, member_from, member_of, fields_of, table_of, IsLayoutOf, IsMemberOf, IsLaidStruct, IsSound, IsSoundBody}
+use Rattle.pa_ctype.specs.Layouts.{Body, Table, body_of, placed, empty, padded, members_from, struct_layout, layout_by, form_layout_by, laid, layout_in, member_from, member_of, fields_of, table_of, IsComplete, IsLayoutOf, IsMemberOf, IsLaidStruct, IsSound, IsSoundBody}
 use Rattle.pa_ctype.proofs.Laws.{then_same, structs_at, struct_layout_same}
 use Rattle.pa_ctype.proofs.Depth.{laid_end, layout_is}
-use Rattle.pa_ctype.proofs.Laying.{kept_fine, layout_kept, kept_sound, members_at, table_body}
+use Rattle.pa_ctype.proofs.Laying.{entry_some, kept_fine, layout_kept, kept_sound, members_at, table_body}
 use Rattle.pa_ctype.proofs.Results.{layout_answer, member_answer}
+use Rattle.pa_ctype.proofs.Keeping.{kept_by}
 use Rattle.pa_ctype.proofs.NodeTable.{fits_at}
+use Rattle.pa_ctype.proofs.Forms.{HoldsBy, formed_node, formed_more}
 
 -- the layout of a struct that is laid is that of its members
 laid_struct : (table : Table) (id : ℕ) (body : Body) → IsLaidStruct table id → body_of table id ≡ Some body → (l : Layout) × (struct_layout (layout_in table) body ≡ Some l)
@@ -31,21 +36,6 @@ laid_struct table id body h e =
     let (l, k) = h body e in
     let s : structs_at (length table) table id ≡ Some l = laid_end table (Of false (Struct id)) ∙ layout_is table (Of false (Struct id)) l k in
     (l, sym (ap (option_and_then (struct_layout (layout_in table))) e) ∙ s)
-
-entry_some : (o : Option (Option LaidBody)) (body : LaidBody) → option_and_then (λ body. body) o ≡ Some body → o ≡ Some (Some body)
-entry_some None body e = cc
-entry_some (Some None) body e = cc
-entry_some (Some (Some other)) body e = ap Some e
-
--- numbers of names tell the names apart
-test_same : (n : ℕ) (names : ℕ → List ℕ) → AreApart n names → (a b : ℕ) → a < n → b < n → (a == b) ≡ bytes_eq (names a) (names b)
-test_same n names apart a b h g = by (a == b) refl (bytes_eq (names a) (names b)) refl
-  where
-    by : (x : Bool) → (a == b) ≡ x → (y : Bool) → bytes_eq (names a) (names b) ≡ y → (a == b) ≡ bytes_eq (names a) (names b)
-    by true e true f = e ∙ sym f
-    by false e false f = e ∙ sym f
-    by true e false f = e ∙ sym (ap (λ i. bytes_eq (names i) (names b)) (eqb-true a b e) ∙ (bytes_eq-Decides (names b) (names b)).1 refl)
-    by false e true f = eq-eqb a b (apart a b h g ((bytes_eq-Decides (names a) (names b)).0 f)) ∙ sym f
 
 module _ (ns : List Node) (fs : List Facts) (bodies : List (Option LaidBody)) (n : ℕ) (a : AreTypes ns fs bodies n) where
   abbrev pub seen : TypeTable
@@ -64,6 +54,44 @@ module _ (ns : List Node) (fs : List Facts) (bodies : List (Option LaidBody)) (n
 
   pub sound : ForStructs seen (λ table m. IsSound table)
   sound names m fits = kept_sound n names m bodies (a.kept names m fits)
+
+  -- ---- types
+
+  pub all_formed : (number : ℕ) → number < length ns → ForStructs seen (λ table m. is_formed table (m number) ≡ true)
+  all_formed number h names m fits =
+      let table = table_of names m (members_of bodies) in
+      let count : length bodies ≡ length table = sym (length-map (members_of bodies) (option_map (fields_of names m)) ∙ length-map bodies (option_map (λ body. body.members))) in
+      subst (λ t. is_formed table t ≡ true) (sym (fits.by number h))
+      (formed_more (length bodies) (length table) (layout_by (kept_layout bodies)) (layout_in table) (omega (arith, count))
+      (λ t l e. sym (layout_kept n names m bodies (a.kept names m fits) t) ∙ e) (at ns number) (a.formed number h))
+
+  -- what an array holds has a layout
+  held : (t : TypeTree) → IsComplete (table_of (λ i. []) (at ns) (members_of bodies)) t → (l : Layout) × (layout_by (kept_layout bodies) t ≡ Some l)
+  held t (l, k) =
+      (l, layout_kept n (λ i. []) (at ns) bodies (a.kept (λ i. []) (at ns) (fits_at ns)) t ∙ layout_is (table_of (λ i. []) (at ns) (members_of bodies)) t l k)
+
+  holds : (node : Node) → HoldsComplete seen node → HoldsBy (layout_by (kept_layout bodies)) (at ns) node
+  unfolding layout_by form_layout_by
+  holds (variant.Array of None) h = let (l, e) = held (at ns of) (h (λ i. []) (at ns) (fits_at ns)) in rw e refl
+  holds (variant.Array of (Some count)) h = let (l, e) = held (array_of (at ns of) count) (h (λ i. []) (at ns) (fits_at ns)) in rw e refl
+  holds variant.Void h = tt
+  holds variant.Bool h = tt
+  holds (variant.Int bits signed) h = tt
+  holds (variant.Pointer to qualifier) h = tt
+  holds (variant.Struct id) h = tt
+  holds (variant.Returns of) h = tt
+  holds (variant.Takes param rest) h = tt
+  holds (variant.Constant of) h = tt
+
+  -- the type of a node that may be put
+  abbrev MayPut : TypeTable → Node → Type 0
+  MayPut t node = Below (length t.nodes) node × IsStructOf (length t.structs) node × HoldsComplete t node
+
+  pub put_formed : (t : TypeTable) → seen ≡ t → (node : Node) → MayPut t node → is_formed_by (length bodies) (layout_by (kept_layout bodies)) (tree (at ns) node) ≡ true
+  put_formed t e node h =
+      let k = subst (λ t. MayPut t node) (sym e) h in
+      let of_struct = subst (λ n. IsStructOf n node) (length-map bodies (option_map (λ body. body.members))) k.1 in
+      formed_node (length bodies) (layout_by (kept_layout bodies)) (at ns) (length ns) node a.formed k.0 of_struct (holds node k.2)
 
   -- ---- members
 
@@ -91,44 +119,10 @@ module _ (ns : List Node) (fs : List Facts) (bodies : List (Option LaidBody)) (n
     abbrev table : Table
     table = table_of names m (members_of bodies)
 
-    -- layouts don't depend on names
-    alike : (lay : TypeTree → Option Layout) (so_far : Layout) (ms : List Held) → types_bound ms ≤ length ns → members_from lay so_far (unnamed (at ns) ms) ≡ members_from lay so_far (fields_of names m ms)
-    unfolding members_from
-    alike lay so_far [] h = refl
-    alike lay so_far (held ∷ ms) h =
-        ap (option_and_then (λ l. members_from lay (placed so_far l) (unnamed (at ns) ms))) (ap lay (sym (fits.by held.of (omega arith))))
-        ∙ then_same (λ l. members_from lay (placed so_far l) (unnamed (at ns) ms)) (λ l. members_from lay (placed so_far l) (fields_of names m ms)) (λ l. alike lay (placed so_far l) ms (omega arith)) (lay (m held.of))
-
-    struct_alike : (lay : TypeTree → Option Layout) (ms : List Held) → types_bound ms ≤ length ns → struct_layout lay (unnamed (at ns) ms) ≡ struct_layout lay (fields_of names m ms)
-    struct_alike lay [] h = refl
-    struct_alike lay (held ∷ ms) h = ap (option_and_then padded) (alike lay empty (held ∷ ms) h)
-
-    abbrev here : Layout → ℕ → Layout → Option Member
-    here so_far index l = Some (record { offset = next_multiple_of so_far.size l.align; index = index })
-
-    named_place : AreApart n names → (name : ℕ) → name < n → (so_far : Layout) (index : ℕ) (ms : List Held) → types_bound ms ≤ length ns → names_bound ms ≤ n
-        → place_from (lay (at ns) bodies) name so_far index ms ≡ member_from (layout_in table) (names name) so_far index (fields_of names m ms)
-    unfolding member_from
-    named_place apart name w so_far index [] h g = refl
-    named_place apart name w so_far index (held ∷ ms) h g =
-        let e : lay (at ns) bodies held.of ≡ layout_in table (m held.of) = ap (layout_by (kept_layout bodies)) (sym (fits.by held.of (omega arith))) ∙ layout_kept n names m bodies (a.kept names m fits) (m held.of) in
-        ap (option_and_then (λ l. cond (held.name == name) (here so_far index l) (place_from (lay (at ns) bodies) name (placed so_far l) (index + 1) ms))) e
-        ∙ then_same (λ l. cond (held.name == name) (here so_far index l) (place_from (lay (at ns) bodies) name (placed so_far l) (index + 1) ms))
-        (λ l. cond (bytes_eq (names held.name) (names name)) (here so_far index l) (member_from (layout_in table) (names name) (placed so_far l) (index + 1) (fields_of names m ms)))
-        (λ l. ap (λ b. cond b (here so_far index l) (place_from (lay (at ns) bodies) name (placed so_far l) (index + 1) ms)) (test_same n names apart held.name name (omega arith) w)
-        ∙ ap (cond (bytes_eq (names held.name) (names name)) (here so_far index l)) (named_place apart name w (placed so_far l) (index + 1) ms (omega arith) (omega arith)))
-        (layout_in table (m held.of))
-
     pub kept_new : (ms : List Held) (new : LaidBody) → new.members ≡ ms → types_bound ms ≤ length ns → names_bound ms ≤ n → IsSoundBody table (fields_of names m ms)
         → new.layout ≡ struct_layout (layout_by (kept_layout bodies)) (unnamed (at ns) ms)
         → IfSome new.layout (λ l. (name : ℕ) → get nat_eq new.places name ≡ place_from (lay (at ns) bodies) name empty 0 ms)
         → IsKeptBody n names m table new
     kept_new ms new e h g sound laid placed =
-        record {
-          sound = subst (λ ms. IsSoundBody table (fields_of names m ms)) (sym e) sound;
-          layout = laid ∙ struct_alike (layout_by (kept_layout bodies)) ms h ∙ struct_layout_same (layout_by (kept_layout bodies)) (layout_in table) (layout_kept n names m bodies (a.kept names m fits)) (fields_of names m ms)
-              ∙ ap (λ ms. struct_layout (layout_in table) (fields_of names m ms)) (sym e);
-          places = λ apart name w l f.
-              subst (λ o. IfSome o (λ l. (name : ℕ) → get nat_eq new.places name ≡ place_from (lay (at ns) bodies) name empty 0 ms)) f placed name
-              ∙ named_place apart name w empty 0 ms h g ∙ ap (λ ms. member_from (layout_in table) (names name) empty 0 (fields_of names m ms)) (sym e);
-        }
+        kept_by ns bodies names m table (λ i w. ap (layout_by (kept_layout bodies)) (sym (fits.by i w)) ∙ layout_kept n names m bodies (a.kept names m fits) (m i))
+        n m ms new (ap (fields_of names m) e) h g (subst (λ ms. IsSoundBody table (fields_of names m ms)) (sym e) sound) laid placed

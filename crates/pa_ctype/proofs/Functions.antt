@@ -1,10 +1,14 @@
 -- A function's type, one parameter after the other.
-use Rattle.std.proofs.Common.{◌≡◌, ℕ, zero, suc, ◌+◌, ◌-◌, ◌<◌, ◌≤◌, false, List, [], ◌∷◌, length, map, take, get_or, refl, sym, ap, ◌∙◌, arith}
+use Rattle.std.proofs.Common.{◌≡◌, ℕ, zero, suc, ◌+◌, ◌-◌, ◌<◌, ◌≤◌, false, List, [], ◌∷◌, ◌++◌, length, map, take, get_or, refl, sym, ap, ◌∙◌, arith}
 use Rattle.std.proofs.lemmas.List.{map-append, take_more, take_all}
 use Rattle.pa_ctype.specs.declared.node.Node.{Node}
 use Rattle.pa_ctype.specs.Types.{TypeTree, Of, Function, Nil, trees_of}
 use Rattle.pa_ctype.specs.Nodes.{taking, AllBelow, at, Fits, Grown}
 use Rattle.pa_ctype.proofs.KindLaws.{onto, onto_last, onto_function}
+
+pub below_push : (k l : ℕ) → k ≤ l → (is : List ℕ) (i : ℕ) → AllBelow k is → i < l → AllBelow l (is ++ i ∷ [])
+below_push k l h [] i below g = (g, tt)
+below_push k l h (x ∷ is) i below g = (omega (arith, below.0), below_push k l h is i below.1 g)
 
 pub below_at : (k : ℕ) (is : List ℕ) (i : ℕ) → AllBelow k is → i < length is → get_or is i 0 < k
 below_at k [] i h w = absurd (omega arith)

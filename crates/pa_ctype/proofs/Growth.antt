@@ -77,7 +77,7 @@ bodies_more [] b id body e = cc
 bodies_more (x ∷ a) b zero body e = e
 bodies_more (x ∷ a) b (suc id) body e = bodies_more a b id body e
 
-count_more : {A : Type 0} (a b : List A) → length a ≤ length (a ++ b)
+pub count_more : {A : Type 0} (a b : List A) → length a ≤ length (a ++ b)
 count_more [] b = omega arith
 count_more (x ∷ a) b = omega (arith, count_more a b)
 
@@ -92,7 +92,7 @@ bodies_set (x ∷ table) zero new at (suc other) body e = e
 bodies_set (x ∷ table) (suc id) new at zero body e = e
 bodies_set (x ∷ table) (suc id) new at (suc other) body e = bodies_set table id new at other body e
 
-count_set : {A : Type 0} (xs : List A) (id : ℕ) (x : A) → length xs ≤ length (slice_set xs id x)
+pub count_set : {A : Type 0} (xs : List A) (id : ℕ) (x : A) → length xs ≤ length (slice_set xs id x)
 count_set [] id x = omega arith
 count_set (y ∷ xs) zero x = omega arith
 count_set (y ∷ xs) (suc id) x = omega (arith, count_set xs id x)

@@ -7,19 +7,24 @@ use Rattle.pa_ctype.specs.declared.node.Node.{Node}
 use Rattle.pa_ctype.specs.declared.node.Facts.{Facts}
 use Rattle.pa_ctype.specs.declared.structs.LaidBody.{LaidBody}
 use Rattle.pa_ctype.specs.Types.{TypeTree, id_bound}
-use Rattle.pa_ctype.specs.Nodes.{Fits, Grown, IsTable}
+use Rattle.pa_ctype.specs.Nodes.{Fits, Grown, Each, IsTable}
 use Rattle.pa_ctype.specs.Tables.{types_bound, names_bound}
-use Rattle.pa_ctype.specs.Kept.{members_of, IsKeptBody, IsKept, AreTypes}
-use Rattle.pa_ctype.specs.Layouts.{Table, empty, fields_of, table_of, IsComplete, IsSoundBody}
+use Rattle.pa_ctype.specs.Kept.{members_of, kept_layout, IsKeptBody, IsKept, AreTypes}
+use Rattle.pa_ctype.specs.Bounds.{is_formed_by}
+use Rattle.pa_ctype.specs.declared.ctype.Layout.{Layout}
+use Rattle.pa_ctype.specs.Layouts.{Table, empty, layout_by, fields_of, table_of, IsComplete, IsSoundBody}
 use Rattle.pa_ctype.proofs.NodeTable.{fits_grown}
-use Rattle.pa_ctype.proofs.Growth.{Extends, sound_extends, struct_extends, places_extend, extends_more, extends_set, map_set}
+use Rattle.pa_ctype.proofs.Forms.{formed_more}
+use Rattle.pa_ctype.proofs.Laws.{Keeps, layout_by_keeps}
+use Rattle.pa_ctype.proofs.Growth.{Extends, sound_extends, struct_extends, places_extend, extends_more, extends_set, count_more, count_set, map_set}
 
 -- more types
-pub types_grown : (old new : List Node) (fs gs : List Facts) (bodies : List (Option LaidBody)) (n : ℕ) → AreTypes old fs bodies n → IsTable new gs → Grown old new → AreTypes new gs bodies n
-types_grown old new fs gs bodies n a t g =
+pub types_grown : (old new : List Node) (fs gs : List Facts) (bodies : List (Option LaidBody)) (n : ℕ) → AreTypes old fs bodies n → IsTable new gs → Grown old new → Each (is_formed_by (length bodies) (layout_by (kept_layout bodies))) new → AreTypes new gs bodies n
+types_grown old new fs gs bodies n a t g each =
     record {
       table = t;
       known = λ id body e. let k = a.known id body e in let l = g.longer in (omega (arith, k.0), k.1);
+      formed = each;
       kept = λ names m fits. a.kept names m (fits_grown m old new g fits);
     }
 
@@ -73,11 +78,19 @@ module _ (n : ℕ) (names : ℕ → List ℕ) (m : ℕ → TypeTree) where
       by_place (inl old) = kept_extends (table_of names m (members_of bodies)) (slice_set (table_of names m (members_of bodies)) id (Some (fields_of names m new.members))) found grown (h other found old)
       by_place (inr same) = kept_extends (table_of names m (members_of bodies)) (slice_set (table_of names m (members_of bodies)) id (Some (fields_of names m new.members))) found grown (subst (IsKeptBody n names m (table_of names m (members_of bodies))) same k)
 
-  -- one more member
-  pub member_push : (table : Table) (members : List Held) (held : Held) → IsSoundBody table (fields_of names m members) → IsComplete table (m held.of) → id_bound (m held.of) ≤ length table → IsSoundBody table (fields_of names m (members ++ held ∷ []))
-  unfolding IsSoundBody
-  member_push table [] held k c n = (record { complete = c; known = n }, tt)
-  member_push table (x ∷ members) held k c n = (k.0, member_push table members held k.1 c n)
+-- the layouts that are kept stay
+pub layouts_more : (bodies more : List (Option LaidBody)) → Keeps (kept_layout bodies) (kept_layout (bodies ++ more))
+layouts_more [] more id l e = cc
+layouts_more (x ∷ bodies) more zero l e = e
+layouts_more (x ∷ bodies) more (suc id) l e = layouts_more bodies more id l e
+
+layouts_set : (bodies : List (Option LaidBody)) (id : ℕ) (new : LaidBody) → slice_get (members_of bodies) id ≡ Some None → Keeps (kept_layout bodies) (kept_layout (slice_set bodies id (Some new)))
+layouts_set [] id new at other l e = cc
+layouts_set (None ∷ bodies) zero new at zero l e = cc
+layouts_set (Some body ∷ bodies) zero new at zero l e = cc
+layouts_set (x ∷ bodies) zero new at (suc other) l e = e
+layouts_set (x ∷ bodies) (suc id) new at zero l e = e
+layouts_set (x ∷ bodies) (suc id) new at (suc other) l e = layouts_set bodies id new at other l e
 
 -- a struct without a body
 pub types_push : (ns : List Node) (fs : List Facts) (bodies : List (Option LaidBody)) (n : ℕ) → AreTypes ns fs bodies n → AreTypes ns fs (bodies ++ None ∷ []) n
@@ -85,6 +98,8 @@ types_push ns fs bodies n a =
     record {
       table = a.table;
       known = λ id body e. a.known id body (get_push bodies id body e);
+      formed = λ i h. formed_more (length bodies) (length (bodies ++ None ∷ [])) (layout_by (kept_layout bodies)) (layout_by (kept_layout (bodies ++ None ∷ []))) (count_more bodies (None ∷ []))
+          (layout_by_keeps (kept_layout bodies) (kept_layout (bodies ++ None ∷ [])) (layouts_more bodies (None ∷ []))) _ (a.formed i h);
       kept = λ names m fits. kept_push n names m bodies (a.kept names m fits);
     }
 
@@ -99,5 +114,25 @@ types_set ns fs bodies n id new at a types nameds k =
         | inl old ↦ a.known other found old
         | inr same ↦ subst (λ b. (types_bound b.members ≤ length ns) × (names_bound b.members ≤ n)) same (types, nameds)
       ];
+      formed = λ i h. formed_more (length bodies) (length (slice_set bodies id (Some new))) (layout_by (kept_layout bodies)) (layout_by (kept_layout (slice_set bodies id (Some new)))) (count_set bodies id (Some new))
+          (layout_by_keeps (kept_layout bodies) (kept_layout (slice_set bodies id (Some new))) (layouts_set bodies id new at)) _ (a.formed i h);
       kept = λ names m fits. kept_set n names m bodies id new at (a.kept names m fits) (k names m fits);
     }
+
+-- one more struct with a body
+set_last : (bodies : List (Option LaidBody)) (new : LaidBody) → slice_set (bodies ++ None ∷ []) (length bodies) (Some new) ≡ bodies ++ Some new ∷ []
+set_last [] new = refl
+set_last (x ∷ bodies) new = ap (λ l. x ∷ l) (set_last bodies new)
+
+open_last : (bodies : List (Option LaidBody)) → slice_get (members_of (bodies ++ None ∷ [])) (length bodies) ≡ Some None
+open_last [] = refl
+open_last (x ∷ bodies) = open_last bodies
+
+pub types_add : (ns : List Node) (fs : List Facts) (bodies : List (Option LaidBody)) (n : ℕ) (new : LaidBody) → AreTypes ns fs bodies n → types_bound new.members ≤ length ns → names_bound new.members ≤ n
+    → ((names : ℕ → List ℕ) (m : ℕ → TypeTree) → Fits m ns → IsKeptBody n names m (table_of names m (members_of bodies)) new) → AreTypes ns fs (bodies ++ Some new ∷ []) n
+types_add ns fs bodies n new a types named k =
+    subst (λ bodies. AreTypes ns fs bodies n) (set_last bodies new)
+    (types_set ns fs (bodies ++ None ∷ []) n (length bodies) new (open_last bodies) (types_push ns fs bodies n a) types named
+    (λ names m fits.
+    subst (λ table. IsKeptBody n names m table new) (table_push n names m bodies)
+    (kept_extends n names m (table_of names m (members_of bodies)) (table_of names m (members_of bodies) ++ None ∷ []) new (extends_more (table_of names m (members_of bodies)) (None ∷ [])) (k names m fits))))

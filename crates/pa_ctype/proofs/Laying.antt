@@ -93,6 +93,12 @@ place_step lay (first ∷ more) d n h e l so_far after index offset p q a name o
     by_old None true = ap (λ x. Some (record { offset = x; index = index })) q
     by_old None false = refl
 
+-- a struct with a body
+pub entry_some : (o : Option (Option LaidBody)) (body : LaidBody) → option_and_then (λ body. body) o ≡ Some body → o ≡ Some (Some body)
+entry_some None body e = cc
+entry_some (Some None) body e = cc
+entry_some (Some (Some other)) body e = ap Some e
+
 module _ (n : ℕ) (names : ℕ → List ℕ) (m : ℕ → TypeTree) where
   -- the body of a struct, as plain data
   abbrev entry_body : Option (Option LaidBody) → Option Body

@@ -1,12 +1,16 @@
 mod Answering
+pub mod Bodies
 mod Cells
 mod Constants
 mod Depth
 mod Examples
 mod Extents
 mod Finding
-mod Functions
+pub mod Forms
+pub mod Functions
 mod Growth
+mod Joining
+mod Keeping
 mod KeptGrowth
 mod KindLaws
 pub mod Laws
@@ -14,6 +18,6 @@ pub mod Laying
 mod NodeTable
 pub mod Objects
 mod RaisedLaws
-mod Results
+pub mod Results
 mod Sameness
 mod TypeLaws

@@ -1,5 +1,5 @@
 -- The table of nodes: what its numbers stand for, and one more node.
-use Rattle.std.proofs.Common.{◌≡◌, ℕ, zero, suc, ◌<◌, ◌≤◌, ◌+◌, true, false, List, [], ◌∷◌, ◌++◌, length, get_or, map, Option, Some, None, refl, sym, ap, ◌∙◌, subst, arith, below_more, option_map, slice_get, ◌⊎◌, inl, inr}
+use Rattle.std.proofs.Common.{◌≡◌, ℕ, zero, suc, ◌<◌, ◌≤◌, ◌+◌, Bool, true, false, List, [], ◌∷◌, ◌++◌, length, get_or, map, Option, Some, None, refl, sym, ap, ◌∙◌, subst, arith, below_more, option_map, slice_get, ◌⊎◌, inl, inr}
 use Rattle.std.specs.Option.{unwrap_or}
 use Rattle.std.proofs.lemmas.Option.{slice_get-map, slice_get_within, same_Some}
 use Rattle.std.proofs.Math.Seq.{get_or-append_seam}
@@ -18,7 +18,7 @@ use Rattle.pa_ctype.specs.declared.node.Facts.{Facts}
 use Rattle.pa_ctype.specs.Types.{TypeTree, Of, FormTree, TypeTrees, Nil, Cons, type_depth}
 use Rattle.pa_ctype.specs.Types as ty
 use Rattle.pa_ctype.specs.Qualifiers.{bare, with_const}
-use Rattle.pa_ctype.specs.Nodes.{key_of, schema_of, constant, is_function, takes_const, tree, parts, AllBelow, Below, grown, trees, at, Fits, Grown, IsProper, extent_of, AreFacts, IsTable, Lacks, IsBareOf}
+use Rattle.pa_ctype.specs.Nodes.{key_of, schema_of, constant, is_function, takes_const, tree, parts, AllBelow, Below, grown, trees, at, Fits, Grown, Each, IsProper, extent_of, AreFacts, IsTable, Lacks, IsBareOf}
 use Rattle.pa_ctype.proofs.KindLaws.{function_is}
 
 abbrev void : TypeTree
@@ -328,6 +328,13 @@ facts_of es i k f h t = t.kept i f (slice_get-map (λ e. e.1) es i ∙ ap (optio
 pub new_bare : (ns : List Node) (n : Node) (o : Option ℕ) (number b : ℕ) → IsBareOf ns n o → number ≡ length ns → b ≡ unwrap_or o number → (b ≤ length ns) × (at (ns ++ n ∷ []) b ≡ bare (tree (at ns) n))
 new_bare ns n None number b h e is = (omega arith, at_push ns n b (is ∙ e) ∙ sym h)
 new_bare ns n (Some k) number b h e is = let l = h.0 in (omega arith, ap (at (ns ++ n ∷ [])) is ∙ at_append ns (n ∷ []) k h.0 ∙ h.1)
+
+-- what each type has, and a new node's
+pub each_push : (p : TypeTree → Bool) (ns nodes : List Node) (n : Node) → nodes ≡ ns ++ n ∷ [] → Each p ns → p (tree (at ns) n) ≡ true → Each p nodes
+each_push p ns nodes n is h e =
+    let long = length-append ns (n ∷ []) in
+    let more = below_more (λ i. p (at (ns ++ n ∷ []) i) ≡ true) (length ns) (λ i w. ap p (at_append ns (n ∷ []) i w) ∙ h i w) (ap p (at_push ns n (length ns) refl) ∙ e) in
+    subst (Each p) (sym is) (λ i w. more i (omega (arith, long, w)))
 
 -- ---- what gives each number its type
 pub fits_grown : (m : ℕ → TypeTree) (old new : List Node) → Grown old new → Fits m new → Fits m old

@@ -71,7 +71,7 @@ raised_each by [] = refl
 raised_each by (t ∷ ts) = ap (Cons (raised by t)) (raised_each by ts)
 
 -- types are laid as before their ids were raised
-abbrev AreAsBefore : ℕ → (TypeTree → Option Layout) → (TypeTree → Option Layout) → Type 0
+abbrev pub AreAsBefore : ℕ → (TypeTree → Option Layout) → (TypeTree → Option Layout) → Type 0
 AreAsBefore by lay more = (t : TypeTree) → more (raised by t) ≡ lay t
 
 members_raised : (by : ℕ) (lay more : TypeTree → Option Layout) → AreAsBefore by lay more → (so_far : Layout) (body : Body) → members_from more so_far (raised_body by body) ≡ members_from lay so_far body
@@ -131,7 +131,7 @@ module _ (a b : Table) where
   }
 
   -- and none where it has none there
-  layout_in_raised : (t : TypeTree) → layout_in both (raised (length a) t) ≡ layout_in b t
+  pub layout_in_raised : (t : TypeTree) → layout_in both (raised (length a) t) ≡ layout_in b t
   layout_in_raised t = same_by_keeps (layout_in both (raised (length a) t)) (layout_in b t)
       (λ l e. layout_is b t l (layout_was t l (layout_has both (raised (length a) t) l e)))
       (λ l e. layout_is both (raised (length a) t) l (layout_raised t l (layout_has b t l e)))
@@ -146,7 +146,7 @@ module _ (a b : Table) where
       length-both = length-append a (raised_table (length a) b) ∙ ap (λ n. length a + n) (length-map b (option_map (raised_body (length a))))
 
   -- a body is sound where it was
-  sound_raised : (body : Body) → IsSoundBody b body → IsSoundBody both (raised_body (length a) body)
+  pub sound_raised : (body : Body) → IsSoundBody b body → IsSoundBody both (raised_body (length a) body)
   unfolding IsSoundBody
   sound_raised [] h = tt
   sound_raised (field ∷ body) h = (sound_field_raised field h.0, sound_raised body h.1)

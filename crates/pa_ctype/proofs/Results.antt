@@ -1,14 +1,14 @@
 -- What the functions of the definitions give is what `layout_of` and `member` have to answer.
-use Rattle.std.proofs.Common.{◌≡◌, ℕ, ◌+◌, ◌≤◌, Bool, true, false, cond, not, ◌&&◌, List, [], ◌∷◌, Option, Some, None, length, refl, sym, ◌∙◌, ap, subst, arith}
+use Rattle.std.proofs.Common.{◌≡◌, ℕ, zero, suc, ◌+◌, ◌≤◌, Bool, true, false, cond, not, ◌&&◌, List, [], ◌∷◌, Option, Some, None, length, refl, sym, ◌∙◌, ap, subst, arith}
 use Rattle.std.specs.Option.{IsSome, option_and_then}
 use Rattle.std.specs.Int.{next_multiple_of}
 use Rattle.std.specs.Str.{bytes_eq}
 use Rattle.std.specs.List.{list_all}
 use Rattle.pa_ctype.specs.declared.ctype.Layout.{Layout}
 use Rattle.pa_ctype.specs.declared.ctype.Member.{Member}
-use Rattle.pa_ctype.specs.Types.{TypeTree, Of, Struct}
+use Rattle.pa_ctype.specs.Types.{TypeTree, Of, Struct, array_of}
 use Rattle.pa_ctype.specs.Kept.{EndsWithin}
-use Rattle.pa_ctype.specs.Layouts.{Body, Table, body_of, placed, empty, padded, members_from, struct_layout, layout_by, form_layout_by, laid, HasLayout, layout_in, IsComplete, IsLayoutOf, member_from, HasMember, member_of, IsMemberOf, IsLaidStruct, IsSoundBody, IsSound, most_bytes}
+use Rattle.pa_ctype.specs.Layouts.{Body, Table, body_of, times, placed, empty, padded, members_from, struct_layout, layout_by, form_layout_by, laid, HasLayout, layout_in, IsComplete, IsLayoutOf, member_from, HasMember, member_of, IsMemberOf, IsLaidStruct, IsSoundBody, IsSound, most_bytes}
 use Rattle.pa_ctype.proofs.Laws.{then_some, structs_at, one_layout, small_is}
 use Rattle.pa_ctype.proofs.Depth.{layout_is, layout_has, laid_end, one_member}
 
@@ -18,6 +18,20 @@ layout_answer table t = by_layout (layout_in table t) refl
     by_layout : (o : Option Layout) → layout_in table t ≡ o → IsLayoutOf table t o
     by_layout None e = λ l h. let z : None ≡ Some l = sym e ∙ layout_is table t l h in cc
     by_layout (Some l) e = (layout_has table t l e, λ other h. one_layout table t other l h (layout_has table t l e))
+
+-- a type that has a layout is complete
+pub complete_is : (table : Table) (t : TypeTree) (r : Option Layout) → IsLayoutOf table t r → IsSome r → IsComplete table t
+complete_is table t None a s = cc
+complete_is table t (Some l) a s = (l, a.0)
+
+-- the layout of an array is that of its elements side by side
+pub array_laid : (depth : ℕ) (table : Table) (t : TypeTree) (count : ℕ) → laid depth table (array_of t count) ≡ option_and_then (times count) (laid depth table t)
+unfolding laid layout_by form_layout_by
+array_laid zero table t count = refl
+array_laid (suc depth) table t count = refl
+
+pub array_value : (table : Table) (t : TypeTree) (count : ℕ) (r l : Option Layout) → l ≡ layout_in table t → r ≡ option_and_then (times count) l → r ≡ layout_in table (array_of t count)
+array_value table t count r l e f = f ∙ ap (option_and_then (times count)) e ∙ sym (array_laid (length table) table t count)
 
 -- where there is a layout it is answered
 pub some_layout : (table : Table) (t : TypeTree) (r : Option Layout) → IsComplete table t → IsLayoutOf table t r → IsSome r
@@ -69,8 +83,7 @@ laid_ends table id (field ∷ body) h e =
 
 -- a struct is laid where its type is complete
 pub struct_is_laid : (table : Table) (t : TypeTree) (id : ℕ) (r : Option Layout) → t ≡ Of false (Struct id) → IsLayoutOf table t r → IsSome r → IsLaidStruct table id
-struct_is_laid table t id None e a s = cc
-struct_is_laid table t id (Some l) e a s = λ body b. (l, subst (λ x. HasLayout table x l) e a.0)
+struct_is_laid table t id r e a s = λ body b. subst (IsComplete table) e (complete_is table t r a s)
 
 -- so do the members of a struct that has a layout
 pub struct_ends : (lay : TypeTree → Option Layout) (body : Body) (l : Layout) → struct_layout lay body ≡ Some l → EndsWithin lay empty body

@@ -1,5 +1,5 @@
 -- What the table of types keeps beside the members of a struct. No contract of a public call speaks of it.
-use Rattle.std.specs.Prelude.{◌≡◌, ℕ, ◌+◌, ◌<◌, ◌≤◌, nat_eq, ◌==◌, if◌then◌else◌, List, [], ◌∷◌, length, map, Option, Some, None, option_map, option_and_then, slice_get}
+use Rattle.std.specs.Prelude.{◌≡◌, ℕ, ◌+◌, ◌<◌, ◌≤◌, nat_eq, ◌==◌, if◌then◌else◌, List, [], ◌∷◌, length, map, Option, Some, None, IfSome, option_map, option_and_then, slice_get}
 use Rattle.std.specs.Int.{next_multiple_of}
 use Rattle.indexmap.specs.IndexMap.{get}
 use Rattle.pa_ctype.specs.declared.ctype.Layout.{Layout}
@@ -11,8 +11,10 @@ use Rattle.pa_ctype.specs.declared.node.Extent.TheVariants.{Nowhere, Fixed, Stru
 use Rattle.pa_ctype.specs.declared.node.Facts.{Facts}
 use Rattle.pa_ctype.specs.declared.structs.LaidBody.{LaidBody}
 use Rattle.pa_ctype.specs.Types.{TypeTree}
-use Rattle.pa_ctype.specs.Nodes.{Fits, IsTable}
+use Rattle.pa_ctype.specs.Nodes.{at, Fits, Each, IsTable}
 use Rattle.pa_ctype.specs.Tables.{AreApart, types_bound, names_bound}
+use Rattle.pa_ctype.specs.Bounds.{is_formed_by}
+use Rattle.pa_ctype.specs.Joined.{with_name, renumbered}
 use Rattle.pa_ctype.specs.Layouts.{Body, Table, most_bytes, times, placed, empty, members_from, struct_layout, layout_by, layout_in, member_from, fields_of, table_of, IsSoundBody}
 
 -- what contracts see: the members alone
@@ -87,4 +89,23 @@ AreKnown bodies types names = (id : ℕ) (body : LaidBody) → slice_get bodies 
 pub record AreTypes (nodes : List Node) (facts : List Facts) (bodies : List (Option LaidBody)) (n : ℕ) : Type 0 where
   pub table : IsTable nodes facts
   pub known : AreKnown bodies (length nodes) n
+  pub formed : Each (is_formed_by (length bodies) (layout_by (kept_layout bodies))) nodes
   pub kept : (names : ℕ → List ℕ) (m : ℕ → TypeTree) → Fits m nodes → IsKept n names m bodies
+
+-- ---- the bodies of another table
+
+abbrev pub members_in : Option LaidBody → Option (List Held)
+members_in = option_map (λ body. body.members)
+
+-- A body of the other table, whose types and names have these numbers here. Its layout and the places of its members are those that
+-- it has there.
+pub record IsRaisedBody (ns : List Node) (bodies : List (Option LaidBody)) (numbers names : List ℕ) (body : LaidBody) : Type 0 where
+  pub id : ℕ
+  pub from : LaidBody
+  pub stands : slice_get bodies id ≡ Some (Some from)
+  pub members : body.members ≡ renumbered numbers names from.members
+  pub layout : body.layout ≡ struct_layout (layout_by (kept_layout bodies)) (unnamed (at ns) (map (with_name names) from.members))
+  pub places : IfSome body.layout (λ l. (name : ℕ) → get nat_eq body.places name ≡ place_from (lay (at ns) bodies) name empty 0 (map (with_name names) from.members))
+
+abbrev pub AreRaisedBodies : List Node → List (Option LaidBody) → List ℕ → List ℕ → List (Option LaidBody) → Type 0
+AreRaisedBodies ns bodies numbers names made = (id : ℕ) (body : LaidBody) → slice_get made id ≡ Some (Some body) → IsRaisedBody ns bodies numbers names body

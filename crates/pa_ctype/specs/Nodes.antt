@@ -15,7 +15,7 @@ use Rattle.pa_ctype.specs.declared.node.Extent.TheVariants.{Nowhere, Fixed, Stru
 use Rattle.pa_ctype.specs.declared.node.Facts.{Facts}
 use Rattle.pa_ctype.specs.Types.{TypeTree, Of, FormTree, TypeTrees, Nil, Cons, type_depth}
 use Rattle.pa_ctype.specs.Types as ty
-use Rattle.pa_ctype.specs.Qualifiers.{bare}
+use Rattle.pa_ctype.specs.Qualifiers.{bare, with_const}
 use Rattle.pa_ctype.specs.Layouts.{aligned_to_size, integer_layout, times, most_bytes}
 
 -- ---- the type of a node
@@ -161,3 +161,24 @@ Lacks ns n = (i : ℕ) → i < length ns → get_or ns i Void ≡ n → ⊥
 abbrev pub IsBareOf : List Node → Node → Option ℕ → Type 0
 IsBareOf ns node None = bare (tree (at ns) node) ≡ tree (at ns) node
 IsBareOf ns node (Some b) = (b < length ns) × (at ns b ≡ bare (tree (at ns) node))
+
+-- ---- what the types of a table have in common
+
+-- each type of the table has the property
+abbrev pub Each : (TypeTree → Bool) → List Node → Type 0
+Each p ns = (i : ℕ) → i < length ns → IsTrue (p (at ns i))
+
+-- a type has the property where the types that it is made of have it
+pub record IsInherited (p : TypeTree → Bool) : Type 0 where
+  pub bare : (t : TypeTree) → IsTrue (p t) → IsTrue (p (bare t))
+  pub constant : (t : TypeTree) → IsTrue (p t) → IsTrue (p (with_const true t))
+  pub returns : (r : TypeTree) → IsTrue (p r) → IsTrue (p (Of false (ty.Function Nil r)))
+  pub takes : (q t : TypeTree) → IsTrue (p q) → IsTrue (p t) → IsTrue (p (taking q t))
+
+-- a property that each old type has, each new one has
+abbrev pub Inherits : List Node → List Node → Type 0
+Inherits old new = (p : TypeTree → Bool) → IsInherited p → Each p old → Each p new
+
+-- where this type has it too
+abbrev pub InheritsWith : TypeTree → List Node → List Node → Type 0
+InheritsWith t old new = (p : TypeTree → Bool) → IsInherited p → Each p old → IsTrue (p t) → Each p new

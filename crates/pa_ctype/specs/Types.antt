@@ -1,5 +1,5 @@
 -- Types of C (C11 6.2.5) as plain data.
-use Rattle.std.specs.Prelude.{ℕ, suc, max, Bool, List, [], ◌∷◌, Option}
+use Rattle.std.specs.Prelude.{ℕ, suc, max, Bool, false, List, [], ◌∷◌, Option, Some}
 use Rattle.pa_pac.specs.declared.schema.Schema.{Schema}
 
 mutual
@@ -18,6 +18,10 @@ mutual
   pub data TypeTrees : Type 0 where
     Nil : TypeTrees
     Cons : (first : TypeTree) (rest : TypeTrees) → TypeTrees
+
+-- so many elements of a type
+abbrev pub array_of : TypeTree → ℕ → TypeTree
+array_of of count = Of false (Array of (Some count))
 
 abbrev pub trees_of : List TypeTree → TypeTrees
 trees_of [] = Nil

@@ -2,6 +2,7 @@
 #![tactic(auto)]
 
 mod ctype;
+mod joined;
 mod layouts;
 mod node;
 mod nodes;
@@ -10,4 +11,4 @@ mod types;
 
 pub use ctype::{Held, Layout, Member, Members};
 pub use node::{Node, Qualifier, SchemaKey, Shape};
-pub use types::Types;
+pub use types::{Joined, Types};

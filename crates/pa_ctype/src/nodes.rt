@@ -183,6 +183,7 @@ fn put_with(nodes: &mut Nodes, node: Node, bare: Option<u32>) -> u32
     ensures known { result < length (keys nodes.new) }
     ensures is { spec.at (keys nodes.new) result ≡ spec.tree (spec.at (keys nodes.old)) node }
     ensures grown { spec.Grown (keys nodes.old) (keys nodes.new) }
+    ensures each { spec.InheritsWith (spec.tree (spec.at (keys nodes.old)) node) (keys nodes.old) (keys nodes.new) }
     ensures one { length (keys nodes.new) ≤ length (keys nodes.old) + 1 }
     ensures room { spare nodes.old ≤ spare nodes.new + 1 }
 {
@@ -210,6 +211,7 @@ pub(crate) fn put(nodes: &mut Nodes, node: Node) -> u32
     ensures known { result < length (keys nodes.new) }
     ensures is { spec.at (keys nodes.new) result ≡ spec.tree (spec.at (keys nodes.old)) node }
     ensures grown { spec.Grown (keys nodes.old) (keys nodes.new) }
+    ensures each { spec.InheritsWith (spec.tree (spec.at (keys nodes.old)) node) (keys nodes.old) (keys nodes.new) }
     ensures two { length (keys nodes.new) ≤ length (keys nodes.old) + 2 }
     ensures room { spare nodes.old ≤ spare nodes.new + 2 }
 {
@@ -231,6 +233,7 @@ pub(crate) fn put_constant(nodes: &mut Nodes, number: u32) -> u32
     ensures known { result < length (keys nodes.new) }
     ensures is { spec.at (keys nodes.new) result ≡ with_const true (spec.at (keys nodes.old) number) }
     ensures grown { spec.Grown (keys nodes.old) (keys nodes.new) }
+    ensures each { spec.Inherits (keys nodes.old) (keys nodes.new) }
     ensures some { length (keys nodes.new) ≤ length (keys nodes.old) + (2 * type_depth (spec.at (keys nodes.old) number) + 2) }
     ensures room { spare nodes.old ≤ spare nodes.new + (2 * type_depth (spec.at (keys nodes.old) number) + 2) }
 {
@@ -257,6 +260,7 @@ pub(crate) fn put_function(nodes: &mut Nodes, params: &[u32], result_type: u32) 
     ensures known { result < length (keys nodes.new) }
     ensures is { spec.at (keys nodes.new) result ≡ Of false (Function (trees_of (map (spec.at (keys nodes.old)) params.now)) (spec.at (keys nodes.old) result_type)) }
     ensures grown { spec.Grown (keys nodes.old) (keys nodes.new) }
+    ensures each { spec.Inherits (keys nodes.old) (keys nodes.new) }
 {
     let mut number = put(nodes, Node::Returns { of: result_type });
     let mut left = params.len();

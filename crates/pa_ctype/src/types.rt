@@ -1,19 +1,23 @@
 ghost use Rattle.std.specs.Prelude.{◌≡◌, ◌<◌, ◌≤◌, ◌+◌, ◌^◌, ◌↔◌, ◌++◌, ◌∷◌, [], ℕ, List, length, map, slice_get, slice_set, Some, None, IsTrue, IfOk, IfSome, OnOk, OnErr, true, false};
 ghost use Rattle.std.specs.Option.{option_copied, option_and_then, option_map};
-ghost use Rattle.pa_ctype.specs.Types.{Of, Function, trees_of, type_depth};
+ghost use Rattle.pa_ctype.specs.Types.{Of, Function, trees_of, type_depth, array_of};
 ghost use Rattle.pa_ctype.specs.Qualifiers as qualifiers;
 ghost use Rattle.pa_ctype.specs.Equality as equality;
 ghost use Rattle.pa_ctype.specs.Nodes.{tree, at, Fits, AllBelow, Below, IsProper, schema_of};
 ghost use Rattle.pa_ctype.specs.Tables.{types_bound, names_bound, ForTypes, ForStructs, ForNamed, IsSoundIn};
 ghost use Rattle.pa_ctype.specs.Layouts as spec;
+ghost use Rattle.pa_ctype.specs.Bounds.{is_formed, IsStructOf, HoldsComplete};
+ghost use Rattle.pa_ctype.specs.Joined.{AreRaised, AreFollowed};
 ghost use Rattle.pa_ctype.specs.Shapes.{shape_of};
 
 use crate::ctype::{Layout, Member, Members};
+use crate::joined::{put_raised, raised_bodies};
+use crate::layouts::times;
 use crate::node::{Node, Qualifier, Shape};
 use crate::nodes::{Nodes, facts_at, node_at, put, put_constant, put_function, reserve};
 use crate::structs::{LaidBody, body_of, laid_body, type_layout};
 use indexmap::IndexMap;
-use pa_num::Memory;
+use pa_num::{Memory, Sequence};
 use pa_pac::Schema;
 use sqlite_items::Items;
 use std::alloc::{AllocError, Global};
@@ -67,10 +71,13 @@ impl Types {
         self.nodes.is_empty()
     }
 
-    /// The number of the type of a node. After want of memory the table is as before.
+    /// The number of the type of a node. `layout_of` and `array_layout` tell whether what an array holds is complete (C11
+    /// 6.7.6.2p1). After want of memory the table is as before.
     pub fn put(&mut self, node: Node) -> Result<u32, Memory>
         requires below { Below (length self.old.nodes) node }
         requires proper { IsProper (at self.old.nodes) node }
+        requires id { IsStructOf (length self.old.structs) node }
+        requires complete { HoldsComplete self.old node }
         ensures known { IfOk result (λ n. n < length self.new.nodes) }
         ensures is { IfOk result (λ n. ForTypes self.new (λ m. m n ≡ tree m node)) }
         ensures longer { length self.old.nodes ≤ length self.new.nodes }
@@ -255,6 +262,22 @@ impl Types {
         Ok(())
     }
 
+    /// One more struct, with this body: its id. After want of memory there is none more.
+    pub fn declare_with(&mut self, alloc: Global, members: Members) -> Result<u32, Memory>
+        requires count { length self.old.structs < 2 ^ 32 }
+        requires types { types_bound members ≤ length self.old.nodes }
+        requires names { names_bound members ≤ self.old.names }
+        requires sound { IsSoundIn self.old members }
+        ensures id { IfOk result (λ id. id ≡ length self.old.structs) }
+        ensures ok { OnOk result (self.new ≡ record self.old { structs = self.old.structs ++ Some members ∷ [] }) }
+        ensures err { OnErr result (self.new ≡ self.old) }
+    {
+        let id = self.bodies.len() as u32;
+        let body = laid_body(alloc, &self.nodes, self.bodies.as_slice(), members)?;
+        self.bodies.push(Some(body))?;
+        Ok(id)
+    }
+
     /// How many bytes an object of a type has, and of which number its address is a multiple (C11 6.2.8). None: the type isn't
     /// complete (C11 6.2.5p1), an integer in it has another width than 8, 16, 32 or 64 bits, an array in it has no element, a
     /// struct in it has no member, or it or an array or struct in it has more than 4,294,967,295 bytes. Types behind a pointer,
@@ -263,8 +286,18 @@ impl Types {
         requires { number < length self.now.nodes }
         ensures answer { ForStructs self.now (λ table m. spec.IsLayoutOf table (m number) result) }
         ensures value { ForStructs self.now (λ table m. result ≡ spec.layout_in table (m number)) }
+        ensures formed { ForStructs self.now (λ table m. IsTrue (is_formed table (m number))) }
     {
         type_layout(&self.nodes, self.bodies.as_slice(), number)
+    }
+
+    /// The layout of an array of so many elements of a type, which need not be in the table. None: it has none, as `layout_of` says.
+    pub fn array_layout(&self, of: u32, count: u64) -> Option<Layout>
+        requires { of < length self.now.nodes }
+        ensures answer { ForStructs self.now (λ table m. spec.IsLayoutOf table (array_of (m of) count) result) }
+        ensures value { ForStructs self.now (λ table m. result ≡ spec.layout_in table (array_of (m of) count)) }
+    {
+        times(count, self.layout_of(of)?)
     }
 
     /// How many bytes an object of a type has (`sizeof`, C11 6.5.3.4).
@@ -316,5 +349,53 @@ impl Types {
     {
         let body = body_of(self.bodies.as_slice(), id)?;
         body.places.get(&name).copied()
+    }
+}
+
+/// A table with the types and structs of a file behind its own.
+#[derive(Drop)]
+pub struct Joined {
+    pub types: Types,
+    /// The number that each type of the file has in the table.
+    pub numbers: Sequence<u32>,
+}
+
+impl Types {
+    /// This table with the types and structs of a file behind its own: the ids of the file's structs are raised by the count of
+    /// those that stand here. `names` has the number here of each name of the file.
+    pub fn followed_by(self, alloc: Global, file: &Types, names: &[u32]) -> Result<Joined, Memory>
+        requires structs { length self.structs + length file.now.structs < 2 ^ 32 }
+        requires count { length names.now ≡ file.now.names }
+        requires names { AllBelow self.names names.now }
+        ensures count { IfOk result (λ joined. length joined.numbers ≡ length file.now.nodes) }
+        ensures known { IfOk result (λ joined. AllBelow (length joined.types.nodes) joined.numbers) }
+        ensures types { IfOk result (λ joined. ForTypes file.now (λ f. ForTypes joined.types (λ m. AreRaised (length self.structs) joined.numbers f m))) }
+        ensures grows { IfOk result (λ joined. ForTypes joined.types (λ m. Fits m self.nodes)) }
+        ensures structs { IfOk result (λ joined. AreFollowed self file.now names.now joined.types) }
+        ensures names { IfOk result (λ joined. joined.types.names ≡ self.names) }
+    {
+        let Types {
+            mut nodes,
+            mut bodies,
+            names: name_count,
+        } = self;
+        let structs = bodies.len() as u32;
+        let numbers = put_raised(alloc, &mut nodes, &file.nodes, structs)?;
+        let raised = raised_bodies(
+            alloc,
+            &file.nodes,
+            file.bodies.as_slice(),
+            numbers.as_slice(),
+            names,
+        )?;
+        bodies.append(raised)?;
+        Ok(Joined {
+            types: Types {
+                nodes,
+                bodies,
+                names: name_count,
+            },
+            numbers,
+        })
     }
 }

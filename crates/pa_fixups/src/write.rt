@@ -63,6 +63,3 @@ pub fn erase_slots(page: &mut [u8], fixes: &[Fix])
         rest = behind;
     }
 }
-
-#[cfg(test)]
-mod tests;

@@ -2,7 +2,6 @@ pub mod Answers
 pub mod Commas
 pub mod Infixes
 pub mod Inside
-pub mod Nests
 pub mod Parser
 pub mod Parts
 pub mod Reading

@@ -1,8 +1,8 @@
 //! What a tree begins with, and the refusal where none has room.
 
-ghost use Rattle.std.specs.Prelude.{◌≡◌, Err};
+ghost use Rattle.std.specs.Prelude.{◌≡◌};
+ghost use Rattle.pa_grammar.specs.Parser as parser;
 ghost use Rattle.pa_grammar.specs.Reading as reading;
-ghost use Rattle.pa_grammar.specs.declared.rule.ParseError.TheVariants as error;
 
 use crate::reader::Reader;
 use crate::rule::SynRule;
@@ -28,7 +28,7 @@ fn begins_expr(names: &TypeNames, kind: &Kind) -> bool
 /// The rule that the next token breaks where no expression has room.
 #[tactic(auto, unfolding(crate::specs::Reading::no_expr))]
 pub fn no_expr(names: &TypeNames, r: &Reader<'_>) -> SynRule
-    ensures { reading.no_expr names.now r.now ≡ Err (record { rule = error.Broken result; at = r.now }) }
+    ensures { reading.no_expr names.now r.now ≡ parser.refuse result r.now }
 {
     match r.peek() {
         Some(t) if begins_expr(names, &t.kind) => SynRule::S2,

@@ -16,6 +16,3 @@ pub use reader::{Reader, needs};
 pub use rule::{Level, Naming, ParseError, SynRule};
 pub use token::{is_mark, is_word};
 pub use type_names::TypeNames;
-
-#[cfg(test)]
-mod tests;

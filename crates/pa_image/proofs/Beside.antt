@@ -1,5 +1,5 @@
 -- What the bytes of an image tell of what stands beside its code and its slots: that it is of bytes.
-use Rattle.std.proofs.Common.{◌≡◌, ℕ, zero, suc, ◌-◌, ◌<◌, true, List, [], ◌∷◌, ◌++◌, length, drop, replicate, map, subst, sym, arith}
+use Rattle.std.proofs.Common.{◌≡◌, ℕ, zero, suc, ◌-◌, true, List, [], ◌∷◌, ◌++◌, length, drop, replicate, map, subst, arith}
 use Rattle.std.specs.Prelude.{ltb}
 use Rattle.std.specs.List.{concat, list_all}
 use Rattle.std.proofs.lemmas.Bool.{and_parts, ltb-true}

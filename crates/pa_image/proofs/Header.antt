@@ -27,6 +27,7 @@ use Rattle.pa_macho.specs.Layout.{Ordered, page_count, up, places_of, section_of
 use Rattle.pa_macho.specs.Reading.{segment_checks, IsHeader, Refuses, header_flaw}
 use Rattle.pa_layout.specs.Flaws.{AllMet, AnswersOrMemory, flaw_at}
 use Rattle.pa_macho.proofs.Facts.{spans}
+use Rattle.pa_macho.proofs.Headers.{headers_are}
 use Rattle.pa_macho.proofs.Laws.{header_ends, taken_again, header_again}
 use Rattle.pa_image.specs.Known.{Known}
 
@@ -116,23 +117,6 @@ length-entries place address (mark ∷ marks) =
 
 pub length-symbols : (text : TextAt) (marks : List Mark) → length (symbols_of text marks) ≡ 16 * length marks
 length-symbols text marks = length-entries 1 text.address marks
-
-abbrev header_with : Role → ℕ → ℕ → ℕ → ℕ → ℕ → ℕ → ℕ → ℕ → Header
-header_with role text stubs consts got cells fixups symbols strings = record {
-  role = role;
-  text = text;
-  stubs = stubs;
-  consts = consts;
-  got = got;
-  cells = cells;
-  fixups = fixups;
-  symbols = symbols;
-  strings = strings;
-}
-
-headers_are : (r r' : Role) (a1 a2 b1 b2 c1 c2 d1 d2 e1 e2 f1 f2 g1 g2 k1 k2 : ℕ) → r ≡ r' → a1 ≡ a2 → b1 ≡ b2 → c1 ≡ c2 → d1 ≡ d2 → e1 ≡ e2 → f1 ≡ f2 → g1 ≡ g2 → k1 ≡ k2
-    → header_with r a1 b1 c1 d1 e1 f1 g1 k1 ≡ header_with r' a2 b2 c2 d2 e2 f2 g2 k2
-headers_are r r' a1 a2 b1 b2 c1 c2 d1 d2 e1 e2 f1 f2 g1 g2 k1 k2 q a b c d e f g k = cc
 
 pub header_same : (h : Header) (image : Image) (bytes : List ℕ) → Known h (places_of h) (length bytes) → Stands image h (places_of h) bytes → header_of image ≡ h
 unfolding header_of

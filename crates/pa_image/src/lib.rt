@@ -6,8 +6,6 @@ mod image;
 mod parts;
 mod reading;
 mod sizes;
-#[cfg(test)]
-mod tests;
 mod writing;
 
 pub use extent::{is_small, places};

@@ -6,7 +6,7 @@ ghost use Rattle.pa_image.specs.Reading as reading;
 
 use pa_fixups::DataAt;
 use pa_layout::number_of_four;
-use pa_macho::{Header, Places, Role};
+use pa_macho::{FRONT, Header, Places, Role};
 use pa_num::Words;
 use pa_slots::SlotsAt;
 use pa_symbols::{SymbolsAt, TextAt};
@@ -77,7 +77,7 @@ pub(crate) fn text_at(header: &Header) -> TextAt
     ensures { result ≡ spec.text_at header.now }
 {
     TextAt {
-        address: header.role.base() + 0x400,
+        address: header.role.base() + FRONT as u64,
         words: header.text / 4,
     }
 }

@@ -12,7 +12,7 @@ ghost use Rattle.pa_image.specs.Reading.{first_flaw, moved, parts_flaw};
 use crate::image::Image;
 use crate::parts::{data_at, part, read_words, slots_at, symbols_at, text_at};
 use pa_fixups::{Fixups, read_fixups};
-use pa_macho::{Header, Places, read_header};
+use pa_macho::{FRONT, Header, Places, read_header};
 use pa_num::{Bytes, Fault, ImageRule};
 use pa_slots::{Slots, read_slots};
 use pa_symbols::read_symbols;
@@ -70,7 +70,7 @@ fn read_parts(
         text_at(header),
         symbols_at(places),
     )?;
-    let text = read_words(alloc, bytes, 0x400, header.text / 4)?;
+    let text = read_words(alloc, bytes, FRONT, header.text / 4)?;
     let stubs = read_words(alloc, bytes, places.stubs as usize, header.stubs / 4)?;
     let consts = Bytes::from_slice(alloc, part(bytes, places.consts, places.consts_end))?;
     Ok(Image {

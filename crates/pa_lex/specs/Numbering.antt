@@ -1,5 +1,5 @@
 -- Names by number, and what `lex` answers.
-use Rattle.std.specs.Prelude.{◌≡◌, ℕ, if◌then◌else◌, List, [], ◌∷◌, ◌++◌, map, get_or, Result, Ok, Err, codes}
+use Rattle.std.specs.Prelude.{◌≡◌, ℕ, if◌then◌else◌, List, [], ◌∷◌, ◌++◌, map, get_or, Result, Ok, Err, IfOk, codes}
 use Rattle.std.specs.List.{list_any}
 use Rattle.std.specs.Str.{bytes_eq}
 use Rattle.pa_num.specs.declared.fault.Fault.{Fault}
@@ -60,6 +60,13 @@ pub record IsNumbered (token : Spelled) (made : Token) (old new : List Text) : T
   pub kind : IsNumberedKind token.meaning made.kind old new
   pub from : made.from ≡ token.from
   pub to : made.to ≡ token.to
+
+-- what is made of a meaning, and of a token, where memory suffices
+abbrev pub NumbersKind : {E : Type 0} → Meaning → Result Kind E → List Text → List Text → Type 0
+NumbersKind meaning r old new = IfOk r (λ kind. IsNumberedKind meaning kind old new)
+
+abbrev pub NumbersToken : {E : Type 0} → Spelled → Result Token E → List Text → List Text → Type 0
+NumbersToken token r old new = IfOk r (λ made. IsNumbered token made old new)
 
 -- the bytes are these tokens, by the names of these numbers
 pub record IsLexed (bytes : Text) (lexed : Lexed) : Type 0 where

@@ -1,15 +1,18 @@
 -- Forms of the program as plain data.
-use Rattle.std.specs.Prelude.{Option, Some, None, Result, Ok, Err}
+use Rattle.std.specs.Prelude.{Option, Some, None, Result, Ok, Err, IfOk}
 use Rattle.pa_num.specs.declared.fault.Fault.{Fault}
 use Rattle.pa_lex.specs.declared.form.Form.{Form}
 use Rattle.pa_lex.specs.declared.form.Form.TheVariants as f
 use Rattle.pa_lex.specs.declared.meaning.Meaning.{Meaning}
 use Rattle.pa_lex.specs.declared.meaning.Meaning.TheVariants as m
 use Rattle.pa_lex.specs.declared.meaning.Spelled.{Spelled}
+use Rattle.pa_lex.specs.declared.form.Quote.TheVariants.{Double}
 use Rattle.pa_lex.specs.declared.token.Kind.{Kind}
 use Rattle.pa_lex.specs.declared.token.LexRule.{LexRule}
 use Rattle.pa_lex.specs.Lexes as lexes
 use Rattle.pa_lex.specs.Forms as spec
+use Rattle.pa_lex.specs.Reading.{IsMeaning}
+use Rattle.pa_lex.specs.Texts.{Text}
 
 abbrev pub shown : Form → spec.Form
 shown (f.Word text) = spec.Word text.now
@@ -33,6 +36,10 @@ meant (Some meaning) = Some (meaning_of meaning)
 abbrev pub other : Option Kind → Option spec.Meaning
 other None = None
 other (Some kind) = Some (spec.Other kind)
+
+-- what the body of a string literal means, if it means something
+abbrev pub MeansText : {E : Type 0} → Text → Result (Option Kind) E → Type 0
+MeansText body r = IfOk r (λ kind. IsMeaning (spec.Quoted Double body) (other kind))
 
 abbrev pub spelled_of : Spelled → lexes.Spelled
 spelled_of token = record { meaning = meaning_of token.meaning; from = token.from; to = token.to }

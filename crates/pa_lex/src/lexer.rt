@@ -27,7 +27,7 @@ pub fn lex(alloc: Global, bytes: &[u8]) -> Result<Lexed<'_>, Fault<LexRule>>
     ensures distinct { IfOk result (λ lexed. IsDistinct bytes_eq lexed.names) }
     ensures settled { lexes.IsSettled bytes.now }
 {
-    let mut names = Names::new(alloc, bytes)?;
+    let mut names = Names::new(alloc)?;
     let mut tokens = Tokens::new(alloc);
     let mut reader = Reader::new(bytes);
     reader.skip();

@@ -14,6 +14,3 @@ mod token;
 pub use lexer::{Lexed, lex};
 pub use names::Names;
 pub use token::{Include, Keyword, Kind, LexRule, NameNumber, Punct, Token, Tokens};
-
-#[cfg(test)]
-mod tests;

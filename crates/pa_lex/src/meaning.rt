@@ -96,7 +96,7 @@ fn character_kind(body: &[u8]) -> Option<Kind>
 }
 
 fn text_kind(alloc: Global, body: &[u8]) -> Result<Option<Kind>, AllocError>
-    ensures { IfOk result (λ kind. reading.IsMeaning (forms.Quoted Quote.Double body.now) (shapes.other kind)) }
+    ensures { shapes.MeansText body.now result }
 {
     match literal::bytes_of(alloc, body)? {
         Some(bytes) => Ok(Some(Kind::Text(bytes))),

@@ -1,5 +1,6 @@
 mod Above
 mod Below
+pub mod Growth
 mod Placing
 mod Rows
 pub mod Runs

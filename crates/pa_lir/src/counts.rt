@@ -1,12 +1,13 @@
 //! What operations read, write and cost, and what is counted on functions.
 
-ghost use Rattle.std.specs.Prelude.{◌≡◌, ◌≤◌, ◌<◌, ◌^◌};
+ghost use Rattle.std.specs.Prelude.{◌≡◌, ◌≤◌, ◌<◌, ◌^◌, ◌↔◌, sum_by, IsTrue};
 ghost use Rattle.std.specs.Option.{option_to_list};
 ghost use Rattle.pa_lir.specs.Flow.{is_among};
 ghost use Rattle.pa_lir.specs.Parts as spec;
 ghost use Rattle.pa_lir.specs.Reads as spec_reads;
+ghost use Rattle.pa_lir.specs.Ready.{HasFrame, most_bytes};
 
-use crate::function::LirFn;
+use crate::function::{LirFn, LirLocal};
 use crate::op::{Op, Temp};
 
 /// The temporaries that an operation reads: at most two by themselves, and those of a list.
@@ -42,7 +43,8 @@ impl Op {
     /// The most instructions that run for the operation. Those of a call have the beginning of the called function among them,
     /// or its stub and the runtime's function. At most 64.
     pub fn cost(&self) -> u64
-        ensures { result ≡ spec.cost self.now }
+        ensures value { result ≡ spec.cost self.now }
+        ensures most { result ≤ 64 }
     {
         match self {
             Op::Label { .. } => 0,
@@ -198,6 +200,35 @@ pub fn bytes(function: &LirFn) -> u64
         rest = tail;
     }
     total
+}
+
+/// The most bytes of locals, and the most temporaries, of a function that has a stack frame.
+const MOST_BYTES: u64 = 1_048_576;
+
+const MOST_HELD: u64 = 1_048_576;
+
+/// The sizes of locals, each rounded up to 8, are together at most what a stack frame may have.
+fn are_few_bytes(locals: &[LirLocal]) -> bool
+    ensures { IsTrue result ↔ (sum_by spec.rounded locals.now ≤ most_bytes) }
+{
+    let mut left = MOST_BYTES;
+    let mut rest = locals;
+    'locals: while let [local, tail @ ..] = rest {
+        if local.size > left {
+            return false;
+        }
+        left -= local.size.next_multiple_of(8);
+        rest = tail;
+    }
+    true
+}
+
+/// Whether the function has a stack frame: its locals have at most 1,048,576 bytes, each rounded up to 8, and it holds at most
+/// 1,048,576 temporaries. It takes time in proportion to its locals and operations.
+pub fn has_frame(function: &LirFn) -> bool
+    ensures { IsTrue result ↔ HasFrame function.now }
+{
+    are_few_bytes(function.locals.as_slice()) && held(function) <= MOST_HELD
 }
 
 /// The costs of all operations of the function, as they are written.

@@ -11,6 +11,6 @@ mod tests;
 mod walk;
 
 pub use checks::well_formed;
-pub use counts::{bytes, costs, held};
+pub use counts::{bytes, costs, has_frame, held};
 pub use function::{Lir, LirFn, LirFns, LirLocal, Locals};
 pub use op::{BinOp, Label, Op, Ops, Temp, Temps, UnOp};

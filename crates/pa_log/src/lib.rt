@@ -4,8 +4,6 @@
 
 mod log;
 mod signing;
-#[cfg(test)]
-mod tests;
 
 pub use log::Log;
 pub use pa_pac::{Entry, Event, Way, When};

@@ -1,9 +1,9 @@
 //! Instructions that are decoded once.
 
-ghost use Rattle.std.specs.Prelude.{◌≡◌, ◌<◌, ◌+◌, ◌*◌, List, IfOk, OnOk, IfSome, Some, length, HoldsAt};
-ghost use Rattle.pa_mem.specs.Memory.{Region};
+ghost use Rattle.std.specs.Prelude.{◌≡◌, ◌<◌, ◌≤◌, ◌+◌, ◌*◌, List, IfOk, OnOk, IfSome, Some, true, length, HoldsAt};
+ghost use Rattle.pa_mem.specs.Memory.{Region, all_apart};
 ghost use Rattle.pa_processor.specs.Processor.{instruction_at};
-ghost use Rattle.pa_machine.specs.Kept.{IsRight, AreRight, IsEntry, IsSeparate};
+ghost use Rattle.pa_machine.specs.Kept.{IsRight, IsOf, AreRight, AreOf, IsEntry};
 
 use pa_a64::Instr;
 use pa_mem::{Extent, Space};
@@ -29,7 +29,9 @@ struct Place {
 
 impl Table {
     fn new(alloc: Global, extent: Extent) -> Result<Table, Memory>
-        ensures { IfOk result (λ table. (memory : List Region) → IsRight memory table) }
+        ensures right { IfOk result (λ table. (memory : List Region) → IsRight memory table) }
+        ensures base { IfOk result (λ table. table.base ≡ extent.base) }
+        ensures room { IfOk result (λ table. 4 * length table.entries.items ≤ extent.len) }
     {
         let entries = vec![in alloc; None; (extent.len / WORD) as usize]?;
         Ok(Table {
@@ -55,33 +57,32 @@ impl Table {
     fn keep(&mut self, entry: usize, instr: Instr)
         requires { entry < length self.old.entries.items }
         ensures right { (memory : List Region) → IsRight memory self.old → instruction_at memory (self.old.base + 4 * entry) ≡ Some instr → IsRight memory self.new }
+        ensures own { (memory : List Region) → IsOf memory self.old → IsOf memory self.new }
     {
         self.entries[entry] = Some(instr);
     }
 }
 
-/// The instructions that were met in regions that may be run.
+/// The instructions that were met in regions that may be run and may not be written. What is fetched there never changes,
+/// whatever is written elsewhere.
 #[derive(Drop)]
 pub struct Kept {
     tables: Vec<Table>,
 }
 
 impl Kept {
-    /// Room for the instructions of these regions, where none of them may be both written and run. What is fetched never
-    /// changes then.
+    /// Room for the instructions of the regions that may be run and may not be written.
     pub fn new(alloc: Global, space: &Space) -> Result<Kept, Memory>
         ensures right { IfOk result (λ kept. (memory : List Region) → AreRight memory kept) }
-        ensures separate { IfOk result (λ kept. 0 < length kept.tables.items → IsSeparate space.now) }
+        ensures own { IfOk result (λ kept. AreOf space.now kept) }
+        ensures apart { IfOk result (λ kept. all_apart space.now ≡ true) }
     {
         let mut kept = Kept {
             tables: Vec::new(alloc),
         };
-        if !space.is_write_xor_run() {
-            return Ok(kept);
-        }
         for number in 0..space.count() {
             let extent = space.extent(number);
-            if extent.rights.run {
+            if extent.rights.run && !extent.rights.write {
                 kept.add(Table::new(alloc, extent)?)?;
             }
         }
@@ -90,6 +91,7 @@ impl Kept {
 
     fn add(&mut self, table: Table) -> Result<(), Memory>
         ensures right { OnOk result ((memory : List Region) → AreRight memory self.old → IsRight memory table → AreRight memory self.new) }
+        ensures own { OnOk result ((memory : List Region) → AreOf memory self.old → IsOf memory table → AreOf memory self.new) }
     {
         match self.tables.push(table) {
             Ok(()) => Ok(()),
@@ -123,7 +125,7 @@ impl Kept {
     /// Keeps the instruction at an address, where there is room for it.
     pub fn keep(&mut self, at: u64, instr: Instr)
         ensures right { (memory : List Region) → AreRight memory self.old → instruction_at memory at ≡ Some instr → AreRight memory self.new }
-        ensures tables { length self.new.tables.items ≡ length self.old.tables.items }
+        ensures own { (memory : List Region) → AreOf memory self.old → AreOf memory self.new }
     {
         if let Some(place) = self.place(at) {
             self.tables[place.table].keep(place.entry, instr);

@@ -153,18 +153,28 @@ impl<'a, P: Pac> Machine<'a, P> {
         self.processor.ends(trap);
     }
 
-    // The instruction at the place of the next one, which is decoded where it is met first.
+    // The instruction at the place of the next one.
     fn instruction(&mut self) -> Result<Instr, Trap>
         ensures instr { IfOk result (λ instr. instruction_at self.new.machine.memory self.new.machine.pc ≡ Some instr) }
         ensures trap { IfErr result (λ trap. Traps trap self.new.machine) }
         ensures same { self.new ≡ self.old }
     {
-        let at = self.processor.pc();
-        if let Some(instr) = self.kept.get(at) {
-            return Ok(instr);
+        match self.kept.get(self.processor.pc()) {
+            Some(instr) => Ok(instr),
+            None => self.newly_decoded(),
         }
+    }
+
+    // The instruction at the place of the next one, which is kept where there is room for it.
+    #[cold]
+    #[inline(never)]
+    fn newly_decoded(&mut self) -> Result<Instr, Trap>
+        ensures instr { IfOk result (λ instr. instruction_at self.new.machine.memory self.new.machine.pc ≡ Some instr) }
+        ensures trap { IfErr result (λ trap. Traps trap self.new.machine) }
+        ensures same { self.new ≡ self.old }
+    {
         let instr = self.processor.instruction()?;
-        self.kept.keep(at, instr);
+        self.kept.keep(self.processor.pc(), instr);
         Ok(instr)
     }
 

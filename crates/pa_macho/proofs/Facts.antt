@@ -9,7 +9,11 @@ use Rattle.pa_macho.specs.declared.header.Role.TheVariants.{Main, Library}
 use Rattle.pa_macho.specs.declared.header.Header.{Header}
 use Rattle.pa_macho.specs.declared.places.Places.{Places}
 use Rattle.pa_macho.specs.declared.commands.CommandShape.{CommandShape}
-use Rattle.pa_macho.specs.Layout.{counts_of, command_count, commands_end, shapes_of, segment_of, linkedit_segment, places_of, Ordered}
+use Rattle.pa_macho.specs.declared.commands.SegmentName.{SegmentName}
+use Rattle.pa_macho.specs.declared.commands.SegmentName.TheVariants as segments
+use Rattle.pa_macho.specs.declared.commands.SectionName.{SectionName}
+use Rattle.pa_macho.specs.declared.commands.SectionName.TheVariants as sections
+use Rattle.pa_macho.specs.Layout.{front_size, page_size, counts_of, command_count, commands_end, text_at, segment_at, section_at, shapes_of, segment_of, linkedit_segment, places_of, Ordered}
 use Rattle.pa_macho.specs.Reading.{HasRoom, length_check, start_checks}
 
 pub length_long : (bytes : List ℕ) → flaw_of (length_check (length bytes)) bytes ≡ None → 32 ≤ length bytes
@@ -24,6 +28,28 @@ pub shapes_room : (role : Role) (len : ℕ) → commands_end role ≤ len → Ha
 unfolding shapes_of
 shapes_room Main len le = (omega arith, (omega arith, (omega arith, (omega arith, (omega arith, (omega arith, (omega arith, (omega arith, tt))))))))
 shapes_room Library len le = (omega arith, (omega arith, (omega arith, (omega arith, (omega arith, (omega arith, tt))))))
+
+-- the entries of segments and sections stand before the load commands' end
+
+pub segment_early : (role : Role) (name : SegmentName) → text_at role + segment_at name + 64 ≤ commands_end role
+segment_early Main segments.Text = omega arith
+segment_early Main segments.Data = omega arith
+segment_early Main segments.Linkedit = omega arith
+segment_early Library segments.Text = omega arith
+segment_early Library segments.Data = omega arith
+segment_early Library segments.Linkedit = omega arith
+
+pub section_early : (role : Role) (name : SectionName) → text_at role + section_at name + 80 ≤ commands_end role
+section_early Main sections.Text = omega arith
+section_early Main sections.Stubs = omega arith
+section_early Main sections.Consts = omega arith
+section_early Main sections.Got = omega arith
+section_early Main sections.Cells = omega arith
+section_early Library sections.Text = omega arith
+section_early Library sections.Stubs = omega arith
+section_early Library sections.Consts = omega arith
+section_early Library sections.Got = omega arith
+section_early Library sections.Cells = omega arith
 
 -- the counts and the ends that the header tells are those of the list of commands
 pub sizes : List CommandShape → ℕ
@@ -50,7 +76,7 @@ linkedit_ends h p at len bytes o e =
 
 -- each part has its bytes
 pub record Spans (h : Header) (p : Places) : Type 0 where
-  pub text : p.text_end ≡ 0x400 + h.text
+  pub text : p.text_end ≡ front_size + h.text
   pub stubs : p.stubs_end ≡ p.stubs + h.stubs
   pub consts : p.consts_end ≡ p.consts + h.consts
   pub got : p.got_end ≡ p.got + h.got
@@ -63,7 +89,7 @@ pub record Spans (h : Header) (p : Places) : Type 0 where
   pub consts_from : p.stubs_end ≤ p.consts
   pub cells_from : p.got_end ≤ p.cells
   pub linkedit_from : p.cells_end ≤ p.linkedit
-  pub page : p.got + 0x4000 ≤ p.linkedit
+  pub page : p.got + page_size ≤ p.linkedit
   pub symbols_from : p.fixups_end ≤ p.symbols
   pub strings_from : p.symbols_end ≤ p.strings
 

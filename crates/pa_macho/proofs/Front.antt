@@ -13,7 +13,10 @@ use Rattle.pa_macho.specs.declared.header.Header.{Header}
 use Rattle.pa_macho.specs.declared.places.Places.{Places}
 use Rattle.pa_macho.specs.declared.places.Sizes.{Sizes}
 use Rattle.pa_macho.specs.declared.commands.CommandShape.{CommandShape}
-use Rattle.pa_macho.specs.Layout.{places_of, header_of, text_at, commands_end, bare_shape, text_shape, data_shape, fixups_shape, symbols_shape, entry_shape, library_shape, shapes_of, start_of, counts_of, flags_of, page_zero_of, segment_of, section_of, text_segment, data_segment, linkedit_segment, text_section, stubs_section, consts_section, got_section, cells_section, fixups_command, symbols_command, entry_command, library_command}
+use Rattle.pa_macho.specs.declared.commands.SegmentName.TheVariants as segments
+use Rattle.pa_macho.specs.declared.commands.SectionName.TheVariants as sections
+use Rattle.pa_macho.specs.Loader.{load_command}
+use Rattle.pa_macho.specs.Layout.{front_size, places_of, header_of, text_at, data_at, linkedit_at, fixups_at, symbols_at, entry_at, library_at, segment_at, section_at, commands_end, bare_shape, text_shape, data_shape, fixups_shape, symbols_shape, entry_shape, library_shape, shapes_of, start_of, counts_of, flags_of, page_zero_of, segment_of, section_of, text_segment, data_segment, linkedit_segment, text_section, stubs_section, consts_section, got_section, cells_section, fixups_command, symbols_command, entry_command, library_command}
 use Rattle.pa_macho.specs.Reading.{start_checks, size_checks, number_checks, page_zero_checks, segment_checks, last_checks, gap_checks, IsHeader}
 use Rattle.pa_macho.specs.Writing.{FieldsFit, HeaderFits, IsFront, command, page_zero_parts, entry_parts, library_parts, start_parts, segment_parts, front_with, front_of}
 use Rattle.pa_macho.proofs.Facts.{spans}
@@ -98,21 +101,29 @@ page_zero_pieces Library len = []
 abbrev segment_pieces : Header → Places → ℕ → List Piece
 segment_pieces h p len =
     let at = text_at h.role in
-    piece at (command text_shape) ∷ piece (at + 8) (spelled (text_segment h p len)) ∷ piece (at + 72) (spelled (text_section h)) ∷ piece (at + 152) (spelled (stubs_section h p))
-    ∷ piece (at + 232) (spelled (consts_section h p)) ∷ piece (at + 312) (command data_shape) ∷ piece (at + 320) (spelled (data_segment h p len)) ∷ piece (at + 384) (spelled (got_section h p))
-    ∷ piece (at + 464) (spelled (cells_section h p)) ∷ piece (at + 544) (command bare_shape) ∷ piece (at + 552) (spelled (linkedit_segment h p len)) ∷ piece (at + 616) (command fixups_shape)
-    ∷ piece (at + 624) (spelled (fixups_command h p)) ∷ piece (at + 632) (command symbols_shape) ∷ piece (at + 640) (spelled (symbols_command h p)) ∷ []
-
-abbrev library_at : Role → ℕ
-library_at Main = 784
-library_at Library = 688
+    piece at (command text_shape)
+    ∷ piece (at + segment_at segments.Text) (spelled (text_segment h p len))
+    ∷ piece (at + section_at sections.Text) (spelled (text_section h))
+    ∷ piece (at + section_at sections.Stubs) (spelled (stubs_section h p))
+    ∷ piece (at + section_at sections.Consts) (spelled (consts_section h p))
+    ∷ piece (at + data_at) (command data_shape)
+    ∷ piece (at + segment_at segments.Data) (spelled (data_segment h p len))
+    ∷ piece (at + section_at sections.Got) (spelled (got_section h p))
+    ∷ piece (at + section_at sections.Cells) (spelled (cells_section h p))
+    ∷ piece (at + linkedit_at) (command bare_shape)
+    ∷ piece (at + segment_at segments.Linkedit) (spelled (linkedit_segment h p len))
+    ∷ piece (at + fixups_at) (command fixups_shape)
+    ∷ piece (at + fixups_at + load_command) (spelled (fixups_command h p))
+    ∷ piece (at + symbols_at) (command symbols_shape)
+    ∷ piece (at + symbols_at + load_command) (spelled (symbols_command h p))
+    ∷ []
 
 abbrev entry_pieces : Role → List Piece
-entry_pieces Main = piece 760 (command entry_shape) ∷ piece 768 (spelled entry_command) ∷ []
+entry_pieces Main = piece (text_at Main + entry_at) (command entry_shape) ∷ piece (text_at Main + entry_at + load_command) (spelled entry_command) ∷ []
 entry_pieces Library = []
 
 abbrev library_pieces : Role → List Piece
-library_pieces role = piece (library_at role) (command (library_shape role)) ∷ piece (library_at role + 8) (spelled library_command) ∷ piece (commands_end role) (replicate (0x400 - commands_end role) 0) ∷ []
+library_pieces role = piece (library_at role) (command (library_shape role)) ∷ piece (library_at role + load_command) (spelled library_command) ∷ piece (commands_end role) (replicate (front_size - commands_end role) 0) ∷ []
 
 abbrev pieces : Header → Places → ℕ → List Piece
 pieces h p len = start_pieces h.role len ++ (page_zero_pieces h.role len ++ (segment_pieces h p len ++ (entry_pieces h.role ++ library_pieces h.role)))
@@ -158,7 +169,7 @@ section_lengths h p = record {
   symbols = length-spelled (symbols_command h p);
 }
 
-segments_chained : (h : Header) (p : Places) (len : ℕ) → Chained (text_at h.role) (segment_pieces h p len) (text_at h.role + 656)
+segments_chained : (h : Header) (p : Places) (len : ℕ) → Chained (text_at h.role) (segment_pieces h p len) (text_at h.role + entry_at)
 segments_chained h p len =
     let a = length-command text_shape in
     let b = length-command data_shape in
@@ -172,7 +183,7 @@ segments_chained h p len =
     let s2 = s.2 in
     (refl, (omega arith, (omega arith, (omega arith, (omega arith, (omega arith, (omega arith, (omega arith, (omega arith, (omega arith, (omega arith, (omega arith, (omega arith, (omega arith, (omega arith, omega arith)))))))))))))))
 
-entry_chained : (role : Role) → Chained (text_at role + 656) (entry_pieces role) (library_at role)
+entry_chained : (role : Role) → Chained (text_at role + entry_at) (entry_pieces role) (library_at role)
 unfolding entry_command
 entry_chained Main =
     let a = length-command entry_shape in
@@ -184,22 +195,22 @@ library_ends : (role : Role) → library_at role + 40 ≡ commands_end role
 library_ends Main = refl
 library_ends Library = refl
 
-library_chained : (role : Role) → Chained (library_at role) (library_pieces role) 0x400
+library_chained : (role : Role) → Chained (library_at role) (library_pieces role) front_size
 unfolding library_command
 library_chained role =
     let a = length-command (library_shape role) in
     let b = length-spelled library_command in
     let e = library_ends role in
     let le = commands_end-le role in
-    let z : length {A = ℕ} (replicate (0x400 - commands_end role) 0) ≡ 0x400 - commands_end role = length-replicate {A = ℕ} (0x400 - commands_end role) 0 in
+    let z : length {A = ℕ} (replicate (front_size - commands_end role) 0) ≡ front_size - commands_end role = length-replicate {A = ℕ} (front_size - commands_end role) 0 in
     (refl, (omega arith, (omega arith, omega arith)))
 
-chained : (h : Header) (p : Places) (len : ℕ) → Chained 0 (pieces h p len) 0x400
+chained : (h : Header) (p : Places) (len : ℕ) → Chained 0 (pieces h p len) front_size
 chained h p len =
-    Chained-append 0 (start_pieces h.role len) 32 _ 0x400 (start_chained h.role len)
-    (Chained-append 32 (page_zero_pieces h.role len) (text_at h.role) _ 0x400 (page_zero_chained h.role len)
-    (Chained-append (text_at h.role) (segment_pieces h p len) (text_at h.role + 656) _ 0x400 (segments_chained h p len)
-    (Chained-append (text_at h.role + 656) (entry_pieces h.role) (library_at h.role) (library_pieces h.role) 0x400 (entry_chained h.role) (library_chained h.role))))
+    Chained-append 0 (start_pieces h.role len) 32 _ front_size (start_chained h.role len)
+    (Chained-append 32 (page_zero_pieces h.role len) (text_at h.role) _ front_size (page_zero_chained h.role len)
+    (Chained-append (text_at h.role) (segment_pieces h p len) (text_at h.role + entry_at) _ front_size (segments_chained h p len)
+    (Chained-append (text_at h.role + entry_at) (entry_pieces h.role) (library_at h.role) (library_pieces h.role) front_size (entry_chained h.role) (library_chained h.role))))
 
 -- ---- the bytes are the parts
 
@@ -228,10 +239,10 @@ front_joined h p =
 
 record FiveCommands (role : Role) (bytes : List ℕ) : Type 0 where
   pub text : IsAt bytes (text_at role) (command text_shape)
-  pub slots : IsAt bytes (text_at role + 312) (command data_shape)
-  pub linkedit : IsAt bytes (text_at role + 544) (command bare_shape)
-  pub fixups : IsAt bytes (text_at role + 616) (command fixups_shape)
-  pub symbols : IsAt bytes (text_at role + 632) (command symbols_shape)
+  pub slots : IsAt bytes (text_at role + data_at) (command data_shape)
+  pub linkedit : IsAt bytes (text_at role + linkedit_at) (command bare_shape)
+  pub fixups : IsAt bytes (text_at role + fixups_at) (command fixups_shape)
+  pub symbols : IsAt bytes (text_at role + symbols_at) (command symbols_shape)
   pub library : IsAt bytes (library_at role) (command (library_shape role))
 
 five_commands : (role : Role) (bytes : List ℕ) → AllAt bytes (command_pieces 32 (shapes_of role)) → FiveCommands role bytes
@@ -258,12 +269,12 @@ unfolding last_checks shapes_of
 entry_stands Main bytes c m = (c.1.1.1.1.1.1.0, (m.0.0, tt))
 entry_stands Library bytes c m = tt
 
-library_stands : (role : Role) (bytes : List ℕ) → AllMet bytes (last_checks role) → IsAt bytes (library_at role + 8) (spelled library_command)
+library_stands : (role : Role) (bytes : List ℕ) → AllMet bytes (last_checks role) → IsAt bytes (library_at role + load_command) (spelled library_command)
 unfolding last_checks
 library_stands Main bytes m = m.1.0.0
 library_stands Library bytes m = m.0.0
 
-zeros_stand : (role : Role) (p : Places) (bytes : List ℕ) → AllMet bytes (gap_checks role p) → IsAt bytes (commands_end role) (replicate (0x400 - commands_end role) 0)
+zeros_stand : (role : Role) (p : Places) (bytes : List ℕ) → AllMet bytes (gap_checks role p) → IsAt bytes (commands_end role) (replicate (front_size - commands_end role) 0)
 unfolding gap_checks
 zeros_stand role p bytes m = m.0
 
@@ -287,13 +298,13 @@ front_begins h bytes i =
     let s = spans h in
     let e = header_ends h bytes i in
     let all : AllAt bytes (pieces h p p.end) = subst (λ (n : ℕ). AllAt bytes (pieces h p n)) e (pieces_stand h bytes i) in
-    subst (IsAt bytes 0) (front_joined h p) (pieces-stand bytes 0 (pieces h p p.end) 0x400 (omega arith) (chained h p p.end) all)
+    subst (IsAt bytes 0) (front_joined h p) (pieces-stand bytes 0 (pieces h p p.end) front_size (omega arith) (chained h p p.end) all)
 
-pub length-front : (h : Header) → length (front_of h) ≡ 0x400
+pub length-front : (h : Header) → length (front_of h) ≡ front_size
 unfolding front_of
 length-front h =
     let p = places_of h in
-    let l = length-joined 0 (pieces h p p.end) 0x400 (chained h p p.end) in
+    let l = length-joined 0 (pieces h p p.end) front_size (chained h p p.end) in
     let e = front_joined h p in
     sym (ap length e) ∙ omega arith
 
@@ -321,7 +332,7 @@ segments_met h p bytes f a =
 five_from : (h : Header) (p : Places) (bytes : List ℕ) → AllAt bytes (segment_pieces h p p.end) → IsAt bytes (library_at h.role) (command (library_shape h.role)) → FiveCommands h.role bytes
 five_from h p bytes a l = record { text = a.0; slots = a.1.1.1.1.1.0; linkedit = a.1.1.1.1.1.1.1.1.1.0; fixups = a.1.1.1.1.1.1.1.1.1.1.1.0; symbols = a.1.1.1.1.1.1.1.1.1.1.1.1.1.0; library = l }
 
-last_met : (role : Role) (bytes : List ℕ) → AllAt bytes (entry_pieces role) → IsAt bytes (library_at role + 8) (spelled library_command) → AllMet bytes (last_checks role)
+last_met : (role : Role) (bytes : List ℕ) → AllAt bytes (entry_pieces role) → IsAt bytes (library_at role + load_command) (spelled library_command) → AllMet bytes (last_checks role)
 unfolding last_checks
 last_met Main bytes e l = ((e.1.0, entry_fits), ((l, library_fits), tt))
 last_met Library bytes e l = ((l, library_fits), tt)
@@ -334,7 +345,7 @@ front_enough h bytes f b g e =
     let role = h.role in
     let s = spans h in
     let whole : IsAt bytes 0 (joined (pieces h p p.end)) = subst (IsAt bytes 0) (sym (front_joined h p)) b in
-    let all = pieces-apart bytes 0 (pieces h p p.end) 0x400 (chained h p p.end) whole in
+    let all = pieces-apart bytes 0 (pieces h p p.end) front_size (chained h p p.end) whole in
     let start = AllAt-first bytes (start_pieces role p.end) _ all in
     let all1 = AllAt-second bytes (start_pieces role p.end) _ all in
     let zero = AllAt-first bytes (page_zero_pieces role p.end) _ all1 in
@@ -355,13 +366,13 @@ front_enough h bytes f b g e =
     }
 
 -- the front ends with zeros
-pub front_zeros : (h : Header) (bytes : List ℕ) → IsAt bytes 0 (front_of h) → IsAt bytes (commands_end h.role) (replicate (0x400 - commands_end h.role) 0)
+pub front_zeros : (h : Header) (bytes : List ℕ) → IsAt bytes 0 (front_of h) → IsAt bytes (commands_end h.role) (replicate (front_size - commands_end h.role) 0)
 unfolding front_of
 front_zeros h bytes b =
     let p = places_of h in
     let role = h.role in
     let whole : IsAt bytes 0 (joined (pieces h p p.end)) = subst (IsAt bytes 0) (sym (front_joined h p)) b in
-    let all = pieces-apart bytes 0 (pieces h p p.end) 0x400 (chained h p p.end) whole in
+    let all = pieces-apart bytes 0 (pieces h p p.end) front_size (chained h p p.end) whole in
     let all1 = AllAt-second bytes (start_pieces role p.end) _ all in
     let all2 = AllAt-second bytes (page_zero_pieces role p.end) _ all1 in
     let all3 = AllAt-second bytes (segment_pieces h p p.end) _ all2 in

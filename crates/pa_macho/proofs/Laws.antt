@@ -16,8 +16,11 @@ use Rattle.pa_macho.specs.declared.header.Role.TheVariants.{Main, Library}
 use Rattle.pa_macho.specs.declared.header.Header.{Header}
 use Rattle.pa_macho.specs.declared.places.Places.{Places}
 use Rattle.pa_macho.specs.declared.places.Sizes.{Sizes}
-use Rattle.pa_macho.specs.Layout.{places_of, header_of, AreSmall, file_type, commands_end, text_at, shapes_of, start_of, counts_of, segment_of, section_of, linkedit_segment, text_section, stubs_section, consts_section, got_section, cells_section, fixups_command, symbols_command}
+use Rattle.pa_macho.specs.declared.commands.SectionName.TheVariants as sections
+use Rattle.pa_macho.specs.Loader.{load_command, section_size, data_size, symbol_count, strings_size}
+use Rattle.pa_macho.specs.Layout.{front_size, places_of, header_of, AreSmall, file_type, commands_end, text_at, fixups_at, symbols_at, entry_at, section_at, shapes_of, start_of, counts_of, segment_of, section_of, linkedit_segment, text_section, stubs_section, consts_section, got_section, cells_section, fixups_command, symbols_command}
 use Rattle.pa_macho.specs.Reading.{role_in, taken_for, taken, length_check, start_checks, size_checks, number_checks, page_zero_checks, segment_checks, last_checks, gap_checks, flaw_with, header_flaw, IsHeader, Refuses}
+use Rattle.pa_macho.proofs.Headers.{headers_are}
 use Rattle.pa_macho.proofs.Facts.{Spans, spans, length_long, start_long}
 
 -- ---- where no check fails, all are met
@@ -41,11 +44,11 @@ unfolding page_zero_checks
 page_zero_inside Main bytes h = (omega arith, tt)
 page_zero_inside Library bytes h = tt
 
-pub text_at-le : (role : Role) → text_at role + 656 ≤ commands_end role
+pub text_at-le : (role : Role) → text_at role + entry_at ≤ commands_end role
 text_at-le Main = omega arith
 text_at-le Library = omega arith
 
-segments_inside : (h : Header) (p : Places) (bytes : List ℕ) → text_at h.role + 656 ≤ length bytes → AllInside (segment_checks h p (length bytes)) bytes
+segments_inside : (h : Header) (p : Places) (bytes : List ℕ) → text_at h.role + entry_at ≤ length bytes → AllInside (segment_checks h p (length bytes)) bytes
 unfolding segment_checks
 segments_inside h p bytes le = (omega arith, (omega arith, (omega arith, (omega arith, (omega arith, (omega arith, (omega arith, (omega arith, (tt, (omega arith, (omega arith, tt)))))))))))
 
@@ -54,7 +57,7 @@ unfolding last_checks
 last_inside Main bytes h = (omega arith, (omega arith, tt))
 last_inside Library bytes h = (omega arith, tt)
 
-pub commands_end-le : (role : Role) → commands_end role ≤ 0x400
+pub commands_end-le : (role : Role) → commands_end role ≤ front_size
 commands_end-le Main = omega arith
 commands_end-le Library = omega arith
 
@@ -160,23 +163,6 @@ role_told : (role : Role) (bytes : List ℕ) → AllMet bytes (start_checks role
 unfolding start_checks start_of
 role_told role bytes m = role_again role bytes (values_at 0 (start_of role) bytes m.0).1.1.1.0
 
-abbrev header : Role → ℕ → ℕ → ℕ → ℕ → ℕ → ℕ → ℕ → ℕ → Header
-header role text stubs consts got cells fixups symbols strings = record {
-  role = role;
-  text = text;
-  stubs = stubs;
-  consts = consts;
-  got = got;
-  cells = cells;
-  fixups = fixups;
-  symbols = symbols;
-  strings = strings;
-}
-
-headers_are : (role : Role) (a1 a2 b1 b2 c1 c2 d1 d2 e1 e2 f1 f2 g1 g2 k1 k2 : ℕ) → a1 ≡ a2 → b1 ≡ b2 → c1 ≡ c2 → d1 ≡ d2 → e1 ≡ e2 → f1 ≡ f2 → g1 ≡ g2 → k1 ≡ k2
-    → header role a1 b1 c1 d1 e1 f1 g1 k1 ≡ header role a2 b2 c2 d2 e2 f2 g2 k2
-headers_are role a1 a2 b1 b2 c1 c2 d1 d2 e1 e2 f1 f2 g1 g2 k1 k2 a b c d e f g k = cc
-
 moved : (n at to x : ℕ) (bytes : List ℕ) → at ≡ to → number n at bytes ≡ x → number n to bytes ≡ x
 moved n at to x bytes e h = ap (λ (k : ℕ). number n k bytes) (sym e) ∙ h
 
@@ -185,24 +171,31 @@ unfolding segment_checks text_section stubs_section consts_section got_section c
 taken_told h bytes m =
     let p = places_of h in
     let at = text_at h.role in
-    let text = values_at (at + 72) (text_section h) bytes m.1.0 in
-    let stubs = values_at (at + 152) (stubs_section h p) bytes m.1.1.0 in
-    let consts = values_at (at + 232) (consts_section h p) bytes m.1.1.1.0 in
-    let got = values_at (at + 384) (got_section h p) bytes m.1.1.1.1.1.0 in
-    let cells = values_at (at + 464) (cells_section h p) bytes m.1.1.1.1.1.1.0 in
-    let fixups = values_at (at + 624) (fixups_command h p) bytes m.1.1.1.1.1.1.1.1.1.0 in
-    let symbols = values_at (at + 640) (symbols_command h p) bytes m.1.1.1.1.1.1.1.1.1.1.0 in
+    let text_at = at + section_at sections.Text in
+    let stubs_at = at + section_at sections.Stubs in
+    let consts_at = at + section_at sections.Consts in
+    let got_at = at + section_at sections.Got in
+    let cells_at = at + section_at sections.Cells in
+    let fixups = at + fixups_at in
+    let symbols = at + symbols_at in
+    let told_text = values_at text_at (text_section h) bytes m.1.0 in
+    let told_stubs = values_at stubs_at (stubs_section h p) bytes m.1.1.0 in
+    let told_consts = values_at consts_at (consts_section h p) bytes m.1.1.1.0 in
+    let told_got = values_at got_at (got_section h p) bytes m.1.1.1.1.1.0 in
+    let told_cells = values_at cells_at (cells_section h p) bytes m.1.1.1.1.1.1.0 in
+    let told_fixups = values_at (fixups + load_command) (fixups_command h p) bytes m.1.1.1.1.1.1.1.1.1.0 in
+    let told_symbols = values_at (symbols + load_command) (symbols_command h p) bytes m.1.1.1.1.1.1.1.1.1.1.0 in
     let whole : h.symbols % 16 ≡ 0 = eqb-true _ _ m.1.1.1.1.1.1.1.1.1.1.0.1.2.1 in
-    let count : number 4 (at + 644) bytes ≡ h.symbols / 16 = moved 4 (at + 640 + 4) (at + 644) (h.symbols / 16) bytes (omega arith) symbols.1.0 in
-    headers_are h.role _ h.text _ h.stubs _ h.consts _ h.got _ h.cells _ h.fixups _ h.symbols _ h.strings
-    (moved 8 (at + 72 + 16 + 16 + 8) (at + 112) h.text bytes (omega arith) text.1.1.1.0)
-    (moved 8 (at + 152 + 16 + 16 + 8) (at + 192) h.stubs bytes (omega arith) stubs.1.1.1.0)
-    (moved 8 (at + 232 + 16 + 16 + 8) (at + 272) h.consts bytes (omega arith) consts.1.1.1.0)
-    (moved 8 (at + 384 + 16 + 16 + 8) (at + 424) h.got bytes (omega arith) got.1.1.1.0)
-    (moved 8 (at + 464 + 16 + 16 + 8) (at + 504) h.cells bytes (omega arith) cells.1.1.1.0)
-    (moved 4 (at + 624 + 4) (at + 628) h.fixups bytes (omega arith) fixups.1.0)
+    let count : number 4 (symbols + symbol_count) bytes ≡ h.symbols / 16 = moved 4 (symbols + load_command + 4) (symbols + symbol_count) (h.symbols / 16) bytes (omega arith) told_symbols.1.0 in
+    headers_are h.role h.role _ h.text _ h.stubs _ h.consts _ h.got _ h.cells _ h.fixups _ h.symbols _ h.strings refl
+    (moved 8 (text_at + 16 + 16 + 8) (text_at + section_size) h.text bytes (omega arith) told_text.1.1.1.0)
+    (moved 8 (stubs_at + 16 + 16 + 8) (stubs_at + section_size) h.stubs bytes (omega arith) told_stubs.1.1.1.0)
+    (moved 8 (consts_at + 16 + 16 + 8) (consts_at + section_size) h.consts bytes (omega arith) told_consts.1.1.1.0)
+    (moved 8 (got_at + 16 + 16 + 8) (got_at + section_size) h.got bytes (omega arith) told_got.1.1.1.0)
+    (moved 8 (cells_at + 16 + 16 + 8) (cells_at + section_size) h.cells bytes (omega arith) told_cells.1.1.1.0)
+    (moved 4 (fixups + load_command + 4) (fixups + data_size) h.fixups bytes (omega arith) told_fixups.1.0)
     (omega arith)
-    (moved 4 (at + 640 + 4 + 4 + 4) (at + 652) h.strings bytes (omega arith) symbols.1.1.1.0)
+    (moved 4 (symbols + load_command + 4 + 4 + 4) (symbols + strings_size) h.strings bytes (omega arith) told_symbols.1.1.1.0)
 
 pub taken_again : (h : Header) (bytes : List ℕ) → IsHeader h bytes → taken bytes ≡ h
 unfolding taken

@@ -34,6 +34,50 @@ mh_twolevel = 0x80
 abbrev pub mh_pie : ℕ
 mh_pie = 0x200000
 
+-- ---- the bytes of the structures
+
+abbrev pub mach_header_64 : ℕ
+mach_header_64 = 32
+
+-- a command's number and its size, with which each of the next begins
+abbrev pub load_command : ℕ
+load_command = 8
+
+abbrev pub segment_command_64 : ℕ
+segment_command_64 = 72
+
+abbrev pub section_64 : ℕ
+section_64 = 80
+
+abbrev pub linkedit_data_command : ℕ
+linkedit_data_command = 16
+
+abbrev pub symtab_command : ℕ
+symtab_command = 24
+
+abbrev pub entry_point_command : ℕ
+entry_point_command = 24
+
+abbrev pub dylib_command : ℕ
+dylib_command = 24
+
+-- ---- where fields stand in their structures
+
+-- size of section_64
+abbrev pub section_size : ℕ
+section_size = 40
+
+-- datasize of linkedit_data_command
+abbrev pub data_size : ℕ
+data_size = 12
+
+-- nsyms and strsize of symtab_command
+abbrev pub symbol_count : ℕ
+symbol_count = 12
+
+abbrev pub strings_size : ℕ
+strings_size = 20
+
 -- ---- load commands; those that dyld has to know have the highest bit
 
 abbrev pub lc_symtab : ℕ

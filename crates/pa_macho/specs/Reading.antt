@@ -12,29 +12,38 @@ use Rattle.pa_macho.specs.declared.header.Role.TheVariants.{Main, Library}
 use Rattle.pa_macho.specs.declared.header.Header.{Header}
 use Rattle.pa_macho.specs.declared.places.Places.{Places}
 use Rattle.pa_macho.specs.declared.commands.CommandShape.{CommandShape}
-use Rattle.pa_macho.specs.Loader.{mh_dylib}
+use Rattle.pa_macho.specs.declared.commands.SegmentName.{SegmentName}
+use Rattle.pa_macho.specs.declared.commands.SegmentName.TheVariants as segments
+use Rattle.pa_macho.specs.declared.commands.SectionName.{SectionName}
+use Rattle.pa_macho.specs.declared.commands.SectionName.TheVariants as sections
+use Rattle.pa_macho.specs.Loader.{mh_dylib, mach_header_64, load_command, section_size, data_size, symbol_count, strings_size}
 use Rattle.pa_macho.specs.Layout as fields
-use Rattle.pa_macho.specs.Layout.{places_of, commands_end, text_at, shapes_of, padding_low, padding_high}
+use Rattle.pa_macho.specs.Layout.{places_of, front_size, commands_end, text_at, fixups_at, symbols_at, entry_at, library_at, segment_at, section_at, shapes_of, padding_low, padding_high}
 
 -- ---- what a file tells
 
 abbrev pub role_in : List ℕ → Role
 role_in bytes = if number 4 12 bytes == mh_dylib then Library else Main
 
--- the sizes of sections stand in their commands, those of the other parts in the commands that name them
+-- the size that a section's entry tells
+abbrev pub told_size : Role → SectionName → List ℕ → ℕ
+told_size role name bytes = number 8 (text_at role + section_at name + section_size) bytes
+
+-- the sizes of sections stand in their entries, those of the other parts in the commands that name them
 abbrev pub taken_for : Role → List ℕ → Header
 taken_for role bytes =
-    let at = text_at role in
+    let fixups = text_at role + fixups_at in
+    let symbols = text_at role + symbols_at in
     record {
       role = role;
-      text = number 8 (at + 112) bytes;
-      stubs = number 8 (at + 192) bytes;
-      consts = number 8 (at + 272) bytes;
-      got = number 8 (at + 424) bytes;
-      cells = number 8 (at + 504) bytes;
-      fixups = number 4 (at + 628) bytes;
-      symbols = 16 * number 4 (at + 644) bytes;
-      strings = number 4 (at + 652) bytes;
+      text = told_size role sections.Text bytes;
+      stubs = told_size role sections.Stubs bytes;
+      consts = told_size role sections.Consts bytes;
+      got = told_size role sections.Got bytes;
+      cells = told_size role sections.Cells bytes;
+      fixups = number 4 (fixups + data_size) bytes;
+      symbols = 16 * number 4 (symbols + symbol_count) bytes;
+      strings = number 4 (symbols + strings_size) bytes;
     }
 
 unfoldable pub taken : List ℕ → Header
@@ -43,7 +52,7 @@ taken bytes = taken_for (role_in bytes) bytes
 -- ---- checks
 
 unfoldable pub length_check : ℕ → Check
-length_check len = Holds H1 0 (nat_le 32 len)
+length_check len = Holds H1 0 (nat_le mach_header_64 len)
 
 unfoldable pub start_checks : Role → ℕ → List Check
 start_checks role len =
@@ -62,6 +71,11 @@ abbrev pub number_checks : ℕ → List CommandShape → List Check
 number_checks at [] = []
 number_checks at (shape ∷ shapes) = Told H4 at at (four shape.number) ∷ number_checks (at + shape.size) shapes
 
+-- the sizes of all commands come before their numbers
+abbrev pub shapes_flaw : List CommandShape → List ℕ → Option Flaw
+shapes_flaw shapes bytes =
+    first (size_checks mach_header_64 shapes) bytes then first (number_checks mach_header_64 shapes) bytes
+
 -- the number and the size of each command lie inside
 abbrev pub HasRoom : ℕ → List CommandShape → ℕ → Type 0
 HasRoom at [] len = Unit {0}
@@ -69,34 +83,54 @@ HasRoom at (shape ∷ shapes) len = (at + 8 ≤ len) × HasRoom (at + shape.size
 
 -- a program leaves the first 4 GiB of addresses unmapped
 unfoldable pub page_zero_checks : Role → ℕ → List Check
-page_zero_checks Main len = Fields H3 40 (fields.page_zero_of len) ∷ []
+page_zero_checks Main len = Fields H3 (mach_header_64 + load_command) (fields.page_zero_of len) ∷ []
 page_zero_checks Library len = []
+
+-- a segment's fields, or a section's, stand at their place
+abbrev pub segment_check : SegmentName → Header → Places → ℕ → Check
+segment_check name h p len = Fields H3 (text_at h.role + segment_at name) (fields.segment name h p len)
+
+abbrev pub section_check : SectionName → Header → Places → Check
+section_check name h p = Fields H3 (text_at h.role + section_at name) (fields.section name h p)
 
 -- segments with their sections, and the file ends where __LINKEDIT does
 unfoldable pub segment_checks : Header → Places → ℕ → List Check
 segment_checks h p len =
-    let at = text_at h.role in
-    Fields H3 (at + 8) (fields.text_segment h p len)
-    ∷ Fields H3 (at + 72) (fields.text_section h)
-    ∷ Fields H3 (at + 152) (fields.stubs_section h p)
-    ∷ Fields H3 (at + 232) (fields.consts_section h p)
-    ∷ Fields H3 (at + 320) (fields.data_segment h p len)
-    ∷ Fields H3 (at + 384) (fields.got_section h p)
-    ∷ Fields H3 (at + 464) (fields.cells_section h p)
-    ∷ Fields H3 (at + 552) (fields.linkedit_segment h p len)
+    segment_check segments.Text h p len
+    ∷ section_check sections.Text h p
+    ∷ section_check sections.Stubs h p
+    ∷ section_check sections.Consts h p
+    ∷ segment_check segments.Data h p len
+    ∷ section_check sections.Got h p
+    ∷ section_check sections.Cells h p
+    ∷ segment_check segments.Linkedit h p len
     ∷ Holds H3 p.end (nat_le len p.end)
-    ∷ Fields H3 (at + 624) (fields.fixups_command h p)
-    ∷ Fields H3 (at + 640) (fields.symbols_command h p)
+    ∷ Fields H3 (text_at h.role + fixups_at + load_command) (fields.fixups_command h p)
+    ∷ Fields H3 (text_at h.role + symbols_at + load_command) (fields.symbols_command h p)
     ∷ []
 
+-- the first of these checks that fails
+abbrev pub segment_flaw : SegmentName → Header → Places → List ℕ → Option Flaw
+segment_flaw name h p bytes = flaw_of (segment_check name h p (length bytes)) bytes
+
+abbrev pub section_flaw : SectionName → Header → Places → List ℕ → Option Flaw
+section_flaw name h p bytes = flaw_of (section_check name h p) bytes
+
+abbrev pub segments_flaw : Header → Places → List ℕ → Option Flaw
+segments_flaw h p bytes = first (segment_checks h p (length bytes)) bytes
+
+-- the entry point of a program, and the library's name
 unfoldable pub last_checks : Role → List Check
-last_checks Main = Fields H3 768 fields.entry_command ∷ Fields H3 792 fields.library_command ∷ []
-last_checks Library = Fields H3 696 fields.library_command ∷ []
+last_checks Main =
+    Fields H3 (text_at Main + entry_at + load_command) fields.entry_command
+    ∷ Fields H3 (library_at Main + load_command) fields.library_command
+    ∷ []
+last_checks Library = Fields H3 (library_at Library + load_command) fields.library_command ∷ []
 
 -- what stands between the parts is zero, and so is what pads the fixups before their imports
 unfoldable pub gap_checks : Role → Places → List Check
 gap_checks role p =
-    Zeros H3 (commands_end role) 0x400
+    Zeros H3 (commands_end role) front_size
     ∷ Zeros H3 p.text_end p.stubs
     ∷ Zeros H3 p.stubs_end p.consts
     ∷ Zeros H3 p.consts_end p.got
@@ -112,8 +146,8 @@ unfoldable pub flaw_with : Header → Places → List ℕ → Option Flaw
 flaw_with h p bytes =
     flaw_of (length_check (length bytes)) bytes
     then first (start_checks h.role (length bytes)) bytes
-    then first (size_checks 32 (shapes_of h.role)) bytes
-    then first (number_checks 32 (shapes_of h.role)) bytes
+    then first (size_checks mach_header_64 (shapes_of h.role)) bytes
+    then first (number_checks mach_header_64 (shapes_of h.role)) bytes
     then first (page_zero_checks h.role (length bytes)) bytes
     then first (segment_checks h p (length bytes)) bytes
     then first (last_checks h.role) bytes
@@ -127,8 +161,8 @@ header_flaw bytes = flaw_with (taken bytes) (places_of (taken bytes)) bytes
 -- the fields of the header stand at their places, and so do the zeros between the parts
 pub record IsHeader (h : Header) (bytes : List ℕ) : Type 0 where
   pub start : AllMet bytes (start_checks h.role (length bytes))
-  pub sizes : AllMet bytes (size_checks 32 (shapes_of h.role))
-  pub numbers : AllMet bytes (number_checks 32 (shapes_of h.role))
+  pub sizes : AllMet bytes (size_checks mach_header_64 (shapes_of h.role))
+  pub numbers : AllMet bytes (number_checks mach_header_64 (shapes_of h.role))
   pub page_zero : AllMet bytes (page_zero_checks h.role (length bytes))
   pub segments : AllMet bytes (segment_checks h (places_of h) (length bytes))
   pub last : AllMet bytes (last_checks h.role)

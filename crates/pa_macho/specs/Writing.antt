@@ -43,7 +43,8 @@ entry_parts Library = []
 
 abbrev pub library_parts : Role → List (List ℕ)
 library_parts role =
-    command (fields.library_shape role) ∷ spelled fields.library_command ∷ replicate (0x400 - fields.commands_end role) 0 ∷ []
+    command (fields.library_shape role) ∷ spelled fields.library_command
+    ∷ replicate (fields.front_size - fields.commands_end role) 0 ∷ []
 
 abbrev pub start_parts : Role → ℕ → List (List ℕ)
 start_parts role len =
@@ -65,7 +66,7 @@ front_with h p =
     ++ (concat (page_zero_parts h.role p.end)
     ++ (concat (segment_parts h p) ++ (concat (entry_parts h.role) ++ concat (library_parts h.role))))
 
--- the header, its load commands, and zeros up to 0x400
+-- the header, its load commands, and zeros up to __text
 unfoldable pub front_of : Header → List ℕ
 front_of h = front_with h (places_of h)
 
@@ -73,6 +74,6 @@ front_of h = front_with h (places_of h)
 -- zeros between its parts and ends behind the last of them
 pub record IsFront (h : Header) (front : List ℕ) : Type 0 where
   pub bytes_are : front ≡ front_of h
-  pub length_is : length front ≡ 0x400
+  pub length_is : length front ≡ fields.front_size
   pub begins : (bytes : List ℕ) → IsHeader h bytes → IsAt bytes 0 front
   pub enough : (bytes : List ℕ) → IsAt bytes 0 front → AllMet bytes (gap_checks h.role (places_of h)) → length bytes ≡ (places_of h).end → IsHeader h bytes

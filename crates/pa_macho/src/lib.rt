@@ -6,11 +6,9 @@ mod header;
 mod loader;
 mod places;
 mod reading;
-#[cfg(test)]
-mod tests;
 mod writing;
 
 pub use header::{Header, Role};
-pub use places::Places;
+pub use places::{FRONT, Places};
 pub use reading::read_header;
-pub use writing::{FRONT, header_fits, write_header};
+pub use writing::{header_fits, write_header};

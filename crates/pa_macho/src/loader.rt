@@ -18,6 +18,39 @@ pub(crate) const MH_TWOLEVEL: u128 = 0x80;
 
 pub(crate) const MH_PIE: u128 = 0x0020_0000;
 
+// The bytes of the structures.
+
+pub(crate) const MACH_HEADER_64: u32 = 32;
+
+/// A command's number and its size, with which each of the next begins.
+pub(crate) const LOAD_COMMAND: u32 = 8;
+
+pub(crate) const SEGMENT_COMMAND_64: u32 = 72;
+
+pub(crate) const SECTION_64: u32 = 80;
+
+pub(crate) const LINKEDIT_DATA_COMMAND: u32 = 16;
+
+pub(crate) const SYMTAB_COMMAND: u32 = 24;
+
+pub(crate) const ENTRY_POINT_COMMAND: u32 = 24;
+
+pub(crate) const DYLIB_COMMAND: u32 = 24;
+
+// Where fields stand in their structures.
+
+/// `size` of `section_64`.
+pub(crate) const SECTION_SIZE: usize = 40;
+
+/// `datasize` of `linkedit_data_command`.
+pub(crate) const DATA_SIZE: usize = 12;
+
+/// `nsyms` of `symtab_command`.
+pub(crate) const SYMBOL_COUNT: usize = 12;
+
+/// `strsize` of `symtab_command`.
+pub(crate) const STRINGS_SIZE: usize = 20;
+
 pub(crate) const LC_SYMTAB: u32 = 2;
 
 pub(crate) const LC_LOAD_DYLIB: u32 = 0xc;

@@ -40,6 +40,9 @@ pub struct Places {
     pub end: u128,
 }
 
+/// The bytes before `__text`: the header, its load commands, and zeros.
+pub const FRONT: usize = 0x400;
+
 /// The bytes of a page.
 pub(crate) const PAGE: u128 = 0x4000;
 
@@ -78,7 +81,7 @@ impl Sizes {
         ensures value { result ≡ places_of (header_of self.now) }
         ensures order { Ordered result }
     {
-        let text_end = 0x400 + self.text as u128;
+        let text_end = FRONT as u128 + self.text as u128;
         let stubs = round_up(text_end, 16);
         let stubs_end = stubs + self.stubs as u128;
         let consts = round_up(stubs_end, 16);

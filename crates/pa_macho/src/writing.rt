@@ -5,19 +5,15 @@ ghost use Rattle.pa_macho.specs.Writing as spec;
 ghost use Rattle.pa_macho.specs.Writing.{FieldsFit, HeaderFits, IsFront, front_with};
 
 use crate::commands::{
-    BARE_SHAPE, CommandShape, DATA_SHAPE, ENTRY_SHAPE, FIXUPS_SHAPE, SYMBOLS_SHAPE, TEXT_SHAPE,
-    cells_section, commands_end, consts_section, count_fields, data_segment, entry_command,
-    fixups_command, flag_fields, got_section, library_command, library_shape, linkedit_segment,
-    page_zero, start_fields, stubs_section, symbols_command, text_section, text_segment,
+    BARE_SHAPE, CommandShape, DATA_SHAPE, ENTRY_SHAPE, FIXUPS_SHAPE, SYMBOLS_SHAPE, SectionName,
+    SegmentName, TEXT_SHAPE, commands_end, count_fields, entry_command, fixups_command,
+    flag_fields, library_command, library_shape, page_zero, start_fields, symbols_command,
 };
 use crate::header::{Header, Role};
-use crate::places::{Places, Sizes};
+use crate::places::{FRONT, Places, Sizes};
 use pa_layout::{FileField, all_fit, put_fields, put_zeros};
 use pa_num::Memory;
 use std::alloc::{AllocError, Global};
-
-/// The bytes before `__text`.
-pub const FRONT: usize = 0x400;
 
 /// The tables of the header have room for their numbers.
 #[tactic(auto, using(crate::proofs::Fits::fits_room, crate::proofs::Fits::room_fits))]
@@ -26,14 +22,14 @@ fn fields_fit(sizes: &Sizes, places: &Places) -> bool
     ensures { IsTrue result ↔ FieldsFit (header_of sizes.now) places.now }
 {
     let len = places.end;
-    all_fit(&text_segment(sizes, places, len))
-        && all_fit(&text_section(sizes))
-        && all_fit(&stubs_section(sizes, places))
-        && all_fit(&consts_section(sizes, places))
-        && all_fit(&data_segment(sizes, places, len))
-        && all_fit(&got_section(sizes, places))
-        && all_fit(&cells_section(sizes, places))
-        && all_fit(&linkedit_segment(sizes, places, len))
+    all_fit(&SegmentName::Text.fields(sizes, places, len))
+        && all_fit(&SectionName::Text.fields(sizes, places))
+        && all_fit(&SectionName::Stubs.fields(sizes, places))
+        && all_fit(&SectionName::Consts.fields(sizes, places))
+        && all_fit(&SegmentName::Data.fields(sizes, places, len))
+        && all_fit(&SectionName::Got.fields(sizes, places))
+        && all_fit(&SectionName::Cells.fields(sizes, places))
+        && all_fit(&SegmentName::Linkedit.fields(sizes, places, len))
         && all_fit(&fixups_command(sizes, places))
         && all_fit(&symbols_command(sizes, places))
 }
@@ -110,16 +106,16 @@ fn put_segments(out: &mut Vec<u8>, sizes: &Sizes, places: &Places) -> Result<(),
 {
     let len = places.end;
     put_command(out, TEXT_SHAPE)?;
-    put_fields(out, &text_segment(sizes, places, len))?;
-    put_fields(out, &text_section(sizes))?;
-    put_fields(out, &stubs_section(sizes, places))?;
-    put_fields(out, &consts_section(sizes, places))?;
+    put_fields(out, &SegmentName::Text.fields(sizes, places, len))?;
+    put_fields(out, &SectionName::Text.fields(sizes, places))?;
+    put_fields(out, &SectionName::Stubs.fields(sizes, places))?;
+    put_fields(out, &SectionName::Consts.fields(sizes, places))?;
     put_command(out, DATA_SHAPE)?;
-    put_fields(out, &data_segment(sizes, places, len))?;
-    put_fields(out, &got_section(sizes, places))?;
-    put_fields(out, &cells_section(sizes, places))?;
+    put_fields(out, &SegmentName::Data.fields(sizes, places, len))?;
+    put_fields(out, &SectionName::Got.fields(sizes, places))?;
+    put_fields(out, &SectionName::Cells.fields(sizes, places))?;
     put_command(out, BARE_SHAPE)?;
-    put_fields(out, &linkedit_segment(sizes, places, len))?;
+    put_fields(out, &SegmentName::Linkedit.fields(sizes, places, len))?;
     put_command(out, FIXUPS_SHAPE)?;
     put_fields(out, &fixups_command(sizes, places))?;
     put_command(out, SYMBOLS_SHAPE)?;

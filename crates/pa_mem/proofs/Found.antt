@@ -1,13 +1,14 @@
 -- The region that an access finds.
-use Rattle.std.proofs.Common.{◌≡◌, ℕ, suc, ◌+◌, ◌-◌, ◌<◌, ◌≤◌, List, [], ◌∷◌, length, get_or, refl, sym, ap, ◌∙◌, arith, Some, None, position, ◌⊎◌, inl, inr}
-use Rattle.std.specs.Prelude.{Bool, true, false, cond, not, ◌&&◌, ◌||◌, ltb, is_some}
+use Rattle.std.proofs.Common.{◌≡◌, ℕ, suc, ◌+◌, ◌-◌, ◌<◌, ◌≤◌, List, [], ◌∷◌, length, refl, sym, ap, Option, ◌∙◌, arith, Some, None, position, ◌⊎◌, inl, inr}
+use Rattle.std.specs.Prelude.{Bool, true, false, cond, not, ◌&&◌, ◌||◌, ltb, is_some, IfSome, IfNone}
 use Rattle.std.specs.List.{list_any, position_or_len}
 use Rattle.std.proofs.lemmas.Bool.{leb-true, lt-ltb, le-ltb, cases_lt, and_parts}
 use Rattle.std.proofs.lemmas.List.Quantifiers.{position-Some}
+use Rattle.std.proofs.lemmas.List.Folds.{list_any_at}
 use Rattle.pa_mem.specs.declared.access.Rights.{Rights}
 use Rattle.pa_mem.specs.Access.{includes}
 use Rattle.pa_mem.specs.Memory.{Region, Right, Read, Write, Run, has, rights_of, allowed, offers, inside}
-use Rattle.pa_mem.specs.Place.{IsPlace}
+use Rattle.pa_mem.specs.Place.{IsPlace, IsOffered}
 
 -- one right and no other
 abbrev pub only : Right → Rights
@@ -51,24 +52,35 @@ is_some-position {X = X} p (x ∷ xs) = go (p x) (is_some-position p xs)
         let next : 1 + k ≡ suc k = omega arith in
         is_some-cond (ltb (1 + k) (suc (length xs))) (1 + k) ∙ ap (λ n. ltb n (suc (length xs))) next ∙ ltb-suc k (length xs) ∙ sym (is_some-cond (ltb k (length xs)) k) ∙ e
 
--- what the first region that offers an access tells
-pub record IsFound (rights : Rights) (at n : ℕ) (regions : List Region) (i : ℕ) : Type 0 where
-  pub within : i < length regions
-  pub inside : inside rights regions at n ≡ true
-  pub offered : (d : Region) → offers rights at n (get_or regions i d) ≡ true
-
 inside-position : (rights : Rights) (at n : ℕ) (regions : List Region) → inside rights regions at n ≡ is_some (position (offers rights at n) regions)
 unfolding inside
 inside-position rights at n regions = sym (is_some-position (offers rights at n) regions)
 
-pub inside-None : (rights : Rights) (at n : ℕ) (regions : List Region) → None ≡ position (offers rights at n) regions → inside rights regions at n ≡ false
+inside-None : (rights : Rights) (at n : ℕ) (regions : List Region) → None ≡ position (offers rights at n) regions → inside rights regions at n ≡ false
 inside-None rights at n regions h = inside-position rights at n regions ∙ ap is_some (sym h)
 
-pub found-Some : (rights : Rights) (at n : ℕ) (regions : List Region) (i : ℕ) → Some i ≡ position (offers rights at n) regions → IsFound rights at n regions i
-found-Some rights at n regions i h =
-    let r : (d : Region) → (i < length regions) × (offers rights at n (get_or regions i d) ≡ true) × ((k : ℕ) → k < i → offers rights at n (get_or regions k d) ≡ false) = λ d. position-Some (offers rights at n) regions i d (sym h) in
+offered-Some : (rights : Rights) (at n : ℕ) (regions : List Region) (i : ℕ) → Some i ≡ position (offers rights at n) regions → IsOffered rights at n regions i
+offered-Some rights at n regions i h =
     let nowhere : Region = record { base = 0; bytes = []; reads = false; writes = false; runs = false } in
-    record { within = (r nowhere).0; inside = inside-position rights at n regions ∙ ap is_some (sym h); offered = λ d. (r d).1 }
+    record {
+      within = (position-Some (offers rights at n) regions i nowhere (sym h)).0;
+      offers = λ d. (position-Some (offers rights at n) regions i d (sym h)).1;
+    }
+
+-- what the first region that offers an access tells
+pub first-None : (rights : Rights) (at n : ℕ) (regions : List Region) (o : Option ℕ) → o ≡ position (offers rights at n) regions → IfNone o (inside rights regions at n ≡ false)
+first-None rights at n regions None h = inside-None rights at n regions h
+first-None rights at n regions (Some i) h = tt
+
+pub first-Some : (rights : Rights) (at n : ℕ) (regions : List Region) (o : Option ℕ) → o ≡ position (offers rights at n) regions → IfSome o (IsOffered rights at n regions)
+first-Some rights at n regions None h = tt
+first-Some rights at n regions (Some i) h = offered-Some rights at n regions i h
+
+pub offered-inside : (rights : Rights) (at n : ℕ) (regions : List Region) (i : ℕ) → IsOffered rights at n regions i → inside rights regions at n ≡ true
+unfolding inside
+offered-inside rights at n regions i o =
+    let nowhere : Region = record { base = 0; bytes = []; reads = false; writes = false; runs = false } in
+    list_any_at (offers rights at n) regions i nowhere o.within (o.offers nowhere)
 
 pub offers-low : (rights : Rights) (at n : ℕ) (region : Region) → offers rights at n region ≡ true → region.base ≤ at
 offers-low rights at n region h = let p = and_parts _ _ h in leb-true _ _ p.0

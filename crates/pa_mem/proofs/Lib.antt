@@ -1,6 +1,5 @@
 pub mod Apart
 pub mod Bytes
-pub mod Exclusive
 pub mod Fetches
 pub mod Found
 pub mod Numbers

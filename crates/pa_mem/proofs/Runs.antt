@@ -1,8 +1,8 @@
 -- Where no region may be both written and run, a write that is allowed leaves what is fetched.
-use Rattle.std.proofs.Common.{◌≡◌, ℕ, suc, ◌+◌, ◌<◌, ◌≤◌, min, max, List, [], ◌∷◌, length, refl, sym, arith, ◌⊎◌, inl, inr}
-use Rattle.std.specs.Prelude.{Bool, true, false, not, ◌&&◌, leb}
+use Rattle.std.proofs.Common.{◌≡◌, ℕ, zero, suc, Some, ◌+◌, ◌<◌, ◌≤◌, min, max, List, [], ◌∷◌, length, refl, sym, subst, ◌∙◌, arith, ◌⊎◌, inl, inr}
+use Rattle.std.specs.Prelude.{Bool, true, false, not, ◌&&◌, leb, slice_get}
 use Rattle.std.specs.Int.{bytes_low_first}
-use Rattle.std.proofs.lemmas.Bool.{leb-true, and_parts, or_cases, true≢false, cases_Bool, cases_lt}
+use Rattle.std.proofs.lemmas.Bool.{leb-true, and_parts, and_from, or_cases, or_left, or_right, le-leb, true≢false, cases_Bool, cases_lt}
 use Rattle.pa_mem.specs.Memory.{Region, Right, Write, Run, has, allowed, store, with_bytes, fetch, apart, apart_from_all, all_apart, write_xor_run}
 use Rattle.pa_mem.proofs.Bytes.{allowed-with_bytes}
 use Rattle.pa_mem.proofs.Ranges.{load-with_bytes-other}
@@ -77,6 +77,59 @@ fetch-with_bytes regions at (byte ∷ bytes) c a x w = go (cases_Bool (allowed R
         let same = load-with_bytes-other 4 regions at (byte ∷ bytes) c (writes-miss-runs regions at (length bytes) c 3 a x w r) in
         rw (kept, same)
     go (inr r) = let kept = allowed-with_bytes Run regions at (byte ∷ bytes) c 4 in rw (kept, r)
+
+-- ---- a region that may not be written, whatever the rights of the others
+
+-- the n bytes from an address on lie in this region, which may be run and may not be written
+pub record IsSealed (region : Region) (c n : ℕ) : Type 0 where
+  pub low : region.base ≤ c
+  pub high : c + n ≤ region.base + length region.bytes
+  pub runs : region.runs ≡ true
+  pub sealed : region.writes ≡ false
+
+allowed-get : (regions : List Region) (i : ℕ) (region : Region) (c n : ℕ) → slice_get regions i ≡ Some region → IsSealed region c n → allowed Run regions c n ≡ true
+unfolding allowed
+allowed-get [] i region c n e s = cc
+allowed-get (one ∷ regions) zero region c n e s =
+    let same : one ≡ region = cc in
+    or_left _ _ (subst (λ r. (leb r.base c && (leb (c + n) (r.base + length r.bytes) && r.runs)) ≡ true) (sym same)
+    (and_from _ _ (le-leb _ _ s.low) (and_from _ _ (le-leb _ _ s.high) s.runs)))
+allowed-get (one ∷ regions) (suc i) region c n e s = or_right _ _ (allowed-get regions i region c n e s)
+
+-- what may be written misses it
+writes-miss-sealed : (regions : List Region) (i : ℕ) (region : Region) (at n c k : ℕ) → slice_get regions i ≡ Some region → IsSealed region c (suc k) → all_apart regions ≡ true → allowed Write regions at (suc n) ≡ true → c < at + suc n → c + suc k ≤ at
+unfolding allowed all_apart
+writes-miss-sealed [] i region at n c k e s a w = absurd (true≢false (sym w))
+writes-miss-sealed (one ∷ regions) zero region at n c k e s a w =
+    let same : one ≡ region = cc in
+    let p = and_parts _ _ a in
+    go p.0 (subst (λ r. r.writes ≡ false) (sym same) s.sealed) (subst (λ r. Lies Run r c (suc k)) (sym same) (record { low = s.low; high = s.high; may = s.runs })) (or_cases _ _ w)
+  where
+    go : apart_from_all one regions ≡ true → one.writes ≡ false → Lies Run one c (suc k) → (((leb one.base at && (leb (at + suc n) (one.base + length one.bytes) && one.writes)) ≡ true) ⊎ (allowed Write regions at (suc n) ≡ true)) → Misses c (suc k) at (suc n)
+    go f none l (inl here) = absurd (true≢false (sym (lies Write one at (suc n) here).may ∙ none))
+    go f none l (inr there) = misses-flip c k at n (one-misses one regions Run Write c k at n f l there)
+writes-miss-sealed (one ∷ regions) (suc i) region at n c k e s a w =
+    let p = and_parts _ _ a in
+    go p.0 (λ more. writes-miss-sealed regions i region at n c k e s p.1 more) (or_cases _ _ w)
+  where
+    go : apart_from_all one regions ≡ true → (allowed Write regions at (suc n) ≡ true → Misses c (suc k) at (suc n)) → (((leb one.base at && (leb (at + suc n) (one.base + length one.bytes) && one.writes)) ≡ true) ⊎ (allowed Write regions at (suc n) ≡ true)) → Misses c (suc k) at (suc n)
+    go f more (inl here) = one-misses one regions Write Run at n c k f (lies Write one at (suc n) here) (allowed-get regions i region c (suc k) e s)
+    go f more (inr there) = more there
+
+pub fetch-sealed : (regions : List Region) (i : ℕ) (region : Region) (at : ℕ) (bytes : List ℕ) (c : ℕ) → slice_get regions i ≡ Some region → IsSealed region c 4 → all_apart regions ≡ true → allowed Write regions at (length bytes) ≡ true → fetch (with_bytes regions at bytes) c ≡ fetch regions c
+unfolding fetch with_bytes
+fetch-sealed regions i region at [] c e s a w = refl
+fetch-sealed regions i region at (byte ∷ bytes) c e s a w =
+    let kept = allowed-with_bytes Run regions at (byte ∷ bytes) c 4 in
+    let same = load-with_bytes-other 4 regions at (byte ∷ bytes) c (writes-miss-sealed regions i region at (length bytes) c 3 e s a w) in
+    rw (kept, same) refl
+
+-- ---- stores
+
+pub fetch-store-sealed : (n : ℕ) (regions : List Region) (i : ℕ) (region : Region) (at value c : ℕ) → slice_get regions i ≡ Some region → IsSealed region c 4 → all_apart regions ≡ true → allowed Write regions at n ≡ true → fetch (store n regions at value) c ≡ fetch regions c
+fetch-store-sealed n regions i region at value c e s a w =
+    let size = length-bytes_low_first 0 n value in
+    rw (store-with_bytes n regions at value) (fetch-sealed regions i region at (bytes_low_first 0 n value) c e s a (rw size w))
 
 pub fetch-store : (n : ℕ) (regions : List Region) (at value c : ℕ) → all_apart regions ≡ true → write_xor_run regions ≡ true → allowed Write regions at n ≡ true → fetch (store n regions at value) c ≡ fetch regions c
 fetch-store n regions at value c a x w =

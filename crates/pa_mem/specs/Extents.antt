@@ -1,11 +1,7 @@
 -- What is told of a region beside its bytes.
-use Rattle.std.specs.Prelude.{Bool, not, ◌&&◌, length}
+use Rattle.std.specs.Prelude.{length}
 use Rattle.pa_mem.specs.declared.mapping.Extent.{Extent}
 use Rattle.pa_mem.specs.Memory.{Region, rights_of}
 
 abbrev pub extent_of : Region → Extent
 extent_of region = record { base = region.base; len = length region.bytes; rights = rights_of region }
-
--- the region may not be both written and run
-abbrev pub is_exclusive : Region → Bool
-is_exclusive region = not (region.writes && region.runs)

@@ -4,8 +4,6 @@
 mod access;
 mod mapping;
 mod space;
-#[cfg(test)]
-mod tests;
 
 pub use access::{Abort, Rights, Size};
 pub use mapping::Extent;

@@ -1,7 +1,7 @@
 ghost use Rattle.std.specs.Prelude.{◌≡◌, ◌≤◌, ◌+◌, length};
 ghost use Rattle.pa_mem.specs.Memory.{offers, region_of};
 ghost use Rattle.pa_mem.specs.Place.{patched};
-ghost use Rattle.pa_mem.specs.Extents.{extent_of, is_exclusive};
+ghost use Rattle.pa_mem.specs.Extents.{extent_of};
 
 use crate::access::Rights;
 use pa_num::Bytes;
@@ -63,13 +63,6 @@ impl Mapping {
             len: self.bytes.len() as u64,
             rights: self.rights,
         }
-    }
-
-    /// Whether it may not be both written and run.
-    pub fn is_exclusive(&self) -> bool
-        ensures { result ≡ is_exclusive self.now }
-    {
-        !(self.rights.write && self.rights.run)
     }
 
     /// Puts these bytes in the place of those from `start` on.

@@ -1,10 +1,9 @@
-ghost use Rattle.std.specs.Prelude.{◌≡◌, ◌≤◌, ◌<◌, HoldsAt, [], ◌∷◌, ◌++◌, ◌&&◌, length, drop, map, slice_get, true, is_ok, position, IfOk, OnOk, OnErr, MatchResult, Some, None};
+ghost use Rattle.std.specs.Prelude.{◌≡◌, ◌≤◌, ◌<◌, HoldsAt, [], ◌∷◌, ◌++◌, ◌&&◌, length, drop, map, slice_get, true, is_ok, position, IfOk, OnOk, OnErr, MatchResult, IfSome, IfNone, Some, None, false};
 ghost use Rattle.byteorder.specs.Endian.{little_number};
 ghost use Rattle.pa_mem.specs.Access.{byte_count};
-ghost use Rattle.pa_mem.specs.Memory.{Read, Write, allowed, offers, inside, bytes_at, with_bytes, load, store, fetch, apart_from_all, all_apart, write_xor_run, region_of};
-ghost use Rattle.pa_mem.specs.Extents.{extent_of, is_exclusive};
-ghost use Rattle.std.specs.List.{list_all};
-ghost use Rattle.pa_mem.specs.Place.{IsPlace};
+ghost use Rattle.pa_mem.specs.Memory.{Read, Write, allowed, offers, inside, bytes_at, with_bytes, load, store, fetch, apart_from_all, all_apart, region_of};
+ghost use Rattle.pa_mem.specs.Extents.{extent_of};
+ghost use Rattle.pa_mem.specs.Place.{IsPlace, IsOffered};
 
 use crate::access::{Abort, Rights, Size};
 use crate::mapping::{Extent, Mapping};
@@ -17,6 +16,8 @@ use std::marker::Model;
 #[derive(Debug, Drop)]
 pub struct Space {
     regions: Vec<Mapping>,
+    // The index of the region that is tried before the others: the longest that may be written, which is the stack's.
+    likely: usize,
 }
 
 impl Model for Space {
@@ -48,6 +49,7 @@ impl Space {
     {
         Space {
             regions: Vec::new(alloc),
+            likely: 0,
         }
     }
 
@@ -57,15 +59,33 @@ impl Space {
         ensures ok { OnOk result (self.new ≡ self.old ++ region_of base bytes rights ∷ []) }
         ensures err { OnErr result (self.new ≡ self.old) }
     {
+        let likely = self.likely_with(bytes.len(), rights);
         match self.regions.push(Mapping::new(base, bytes, rights)) {
-            Ok(()) => Ok(()),
+            Ok(()) => {
+                self.likely = likely;
+                Ok(())
+            }
             Err(_) => Err(Memory),
+        }
+    }
+
+    // The likely region once one of so many bytes with these rights stands behind the others.
+    fn likely_with(&self, length: usize, rights: Rights) -> usize {
+        let is_longest = self.regions.iter().all(|region| !region.rights.write
+            || region.bytes.len() < length);
+        if rights.write && is_longest {
+            self.regions.len()
+        } else {
+            self.likely
         }
     }
 
     /// How many regions there are.
     pub fn count(&self) -> usize
-        ensures { result ≡ length self.now }
+        ensures count { result ≡ length self.now }
+
+        // No address is in two of them.
+        ensures apart { all_apart self.now ≡ true }
     {
         self.regions.len()
     }
@@ -76,17 +96,6 @@ impl Space {
         ensures { slice_get (map extent_of self.now) number ≡ Some result }
     {
         self.regions[number].extent()
-    }
-
-    /// Whether no region may be both written and run.
-    #[tactic(auto, using(crate::proofs::Exclusive::xor_tested))]
-    pub fn is_write_xor_run(&self) -> bool
-        ensures value { result ≡ write_xor_run self.now }
-
-        // No address is in two of them.
-        ensures apart { all_apart self.now ≡ true }
-    {
-        are_exclusive(self.regions.as_slice())
     }
 
     /// Whether the `count` bytes from `at` on lie inside one region that has at least these rights. No byte at all lies
@@ -170,6 +179,7 @@ impl Space {
         Ok(&region.bytes[place.start..place.start + count as usize])
     }
 
+    #[inline(always)]
     fn find(&self, at: u64, count: u64, rights: Rights) -> Result<Place, Abort>
         ensures inside { inside rights self.now at count ≡ is_ok result }
         ensures region { IfOk result (λ place. place.region < length self.now) }
@@ -183,19 +193,27 @@ impl Space {
         Ok(Place { region, start })
     }
 
+    // The likely region, or else the first that offers these bytes.
+    #[inline(always)]
     fn index(&self, at: u64, count: u64, rights: Rights) -> Option<usize>
+        ensures none { IfNone result (inside rights self.now at count ≡ false) }
+        ensures some { IfSome result (λ index. IsOffered rights at count self.now index) }
+    {
+        match self.regions.get(self.likely) {
+            Some(region) if region.offers(at, count, rights) => Some(self.likely),
+            _ => self.first(at, count, rights),
+        }
+    }
+
+    // It stays a function of its own, so that what most accesses need is small where it is inlined.
+    #[inline(never)]
+    fn first(&self, at: u64, count: u64, rights: Rights) -> Option<usize>
         ensures { result ≡ position (offers rights at count) self.now }
     {
         self.regions
             .iter()
             .position(|region| region.offers(at, count, rights))
     }
-}
-
-fn are_exclusive(regions: &[Mapping]) -> bool
-    ensures { result ≡ list_all is_exclusive regions.now }
-{
-    regions.iter().all(|region| region.is_exclusive())
 }
 
 // Puts these bytes at the front of the buffer.

@@ -79,11 +79,12 @@ mod tests {
     /// Of another implementation of SHA-256 and SipHash-1-3.
     #[test]
     fn hashes_under_the_texts_digest(rt: HostRuntime) {
-        let cases: [(&[u8], &[u8], u64); 4] = [
+        let cases: [(&[u8], &[u8], u64); 5] = [
             (b"", b"main", 0x9bdf_842e_0eaa_4cad),
             (b"", b"", 0xd0cd_9722_b8ff_0c3f),
             (b"abc", b"main", 0x8b10_f216_f77b_6028),
             (b"abc", b"", 0x953b_05dc_fc40_5bcd),
+            (&[b'a'; 300], b"main", 0x55e2_2b5b_2609_a221),
         ];
         for (text, name, hash) in &cases {
             assert_eq!(rt; TextKey::of(*text).hash_one(*name), *hash);

@@ -4,10 +4,10 @@ use Rattle.pa_tree.specs.Exprs.{ExprTree, ExprTrees}
 use Rattle.pa_tree.specs.Exprs as tree
 use Rattle.pa_ctype.specs.Types.{TypeTree}
 use Rattle.pa_ctype.specs.Layouts.{Table}
-use Rattle.pa_rexpr.specs.declared.rule.TypeRule.{TypeRule}
-use Rattle.pa_rexpr.specs.declared.rule.TypeRule.TheVariants.{C24}
-use Rattle.pa_rexpr.specs.Answers.{Answer, Broken, breaks_at, then_with, in_order}
-use Rattle.pa_rexpr.specs.Scope.{Spelling, Scope}
+use Rattle.pa_scope.specs.declared.rule.TypeRule.{TypeRule}
+use Rattle.pa_scope.specs.declared.rule.TypeRule.TheVariants.{C24}
+use Rattle.pa_scope.specs.Answers.{Answer, Broken, breaks_at, then_with, in_order}
+use Rattle.pa_scope.specs.Scope.{Spelling, Scope}
 use Rattle.pa_rexpr.specs.Values.{Typed, read}
 use Rattle.pa_rexpr.specs.Operators.{conditional}
 use Rattle.pa_rexpr.specs.Places.{subscript, member, arrow, stepped, size_of, binary}

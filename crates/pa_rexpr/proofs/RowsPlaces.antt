@@ -8,7 +8,7 @@ use Rattle.pa_tree.specs.Exprs as tree
 use Rattle.pa_typed.specs.declared.expr.BinaryOperation.TheVariants as binary
 use Rattle.pa_typed.specs.declared.expr.Comparison.TheVariants as comparison
 use Rattle.pa_typed.specs.Typed.{GlobalPlace, StringPlace, Member, Index, Deref, Number, Load, LoadSigned, Store, StoreSigned, AddressOf, FunctionValue, Convert, Binary, Compare, Choose, CallDirect, CallPointer, NoTExprs, ConsTExpr}
-use Rattle.pa_rexpr.specs.Conversions.{char, int, unsigned_int, long, unsigned_long, pointer_to}
+use Rattle.pa_convert.specs.Conversions.{char, int, unsigned_int, long, unsigned_long, pointer_to}
 use Rattle.pa_rexpr.specs.Values.{lvalue, temporary, value}
 use Rattle.pa_rexpr.specs.Typing.{typing}
 use Rattle.pa_rexpr.proofs.Computing.{computing}

@@ -10,7 +10,7 @@ use Rattle.pa_typed.specs.declared.expr.UnaryOperation.TheVariants as unary
 use Rattle.pa_typed.specs.declared.expr.BinaryOperation.TheVariants as binary
 use Rattle.pa_typed.specs.declared.expr.Comparison.TheVariants as comparison
 use Rattle.pa_typed.specs.Typed.{Same, Number, Load, Store, AddressOf, Convert, Unary, Binary, PointerAdd, PointerSub, Compare, And, Choose, Comma}
-use Rattle.pa_rexpr.specs.Conversions.{char, int, unsigned_int, long, pointer_to}
+use Rattle.pa_convert.specs.Conversions.{char, int, unsigned_int, long, pointer_to}
 use Rattle.pa_rexpr.specs.Values.{value}
 use Rattle.pa_rexpr.specs.Typing.{typing}
 use Rattle.pa_rexpr.proofs.Computing.{computing}

@@ -5,8 +5,8 @@ use Rattle.pa_pac.specs.declared.key.Key.TheVariants.{IA}
 use Rattle.pa_ctype.specs.Types.{TypeTree, Of, Boolean, Pointer, Array, Struct, Function, Nil, Cons}
 use Rattle.pa_ctype.specs.Layouts.{Body}
 use Rattle.pa_typed.specs.Typed.{TypedExpr, LocalPlace, Number}
-use Rattle.pa_rexpr.specs.Conversions.{char, int, long, pointer_to}
-use Rattle.pa_rexpr.specs.Scope.{Scope, Meaning, Local, Global, Constant, Discriminator, Declaration}
+use Rattle.pa_convert.specs.Conversions.{char, int, long, pointer_to}
+use Rattle.pa_scope.specs.Scope.{Scope, Meaning, Local, Global, Constant, Discriminator, Declaration}
 
 -- ---- the names: `char c; int x; long l; int *p; int a[3]; _Bool b; struct pair s; struct pair *t; q` qualified, and at file level
 -- `int g; int f(int);` and what the headers bring in

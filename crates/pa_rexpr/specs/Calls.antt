@@ -4,10 +4,10 @@ use Rattle.pa_ctype.specs.Types.{TypeTree, Of, Function, TypeTrees, Nil, Cons}
 use Rattle.pa_ctype.specs.Layouts.{Table}
 use Rattle.pa_typed.specs.Typed.{TypedExpr, TypedExprs}
 use Rattle.pa_typed.specs.Typed as to
-use Rattle.pa_rexpr.specs.declared.rule.TypeRule.{TypeRule}
-use Rattle.pa_rexpr.specs.declared.rule.TypeRule.TheVariants.{C8, C9, C10, C11, C15, C16}
-use Rattle.pa_rexpr.specs.Answers.{Answer, breaks_at, at_place, first_of_two, first_rule}
-use Rattle.pa_rexpr.specs.Conversions.{is_integer, is_pointer, is_void, is_scalar, is_function_pointer, target, value_type}
+use Rattle.pa_scope.specs.declared.rule.TypeRule.{TypeRule}
+use Rattle.pa_scope.specs.declared.rule.TypeRule.TheVariants.{C8, C9, C10, C11, C15, C16}
+use Rattle.pa_scope.specs.Answers.{Answer, breaks_at, at_place, first_of_two, first_rule}
+use Rattle.pa_convert.specs.Conversions.{is_integer, is_pointer, is_void, is_scalar, is_function_pointer, target, value_type}
 use Rattle.pa_rexpr.specs.Values.{Typed, value, converted, given}
 use Rattle.pa_rexpr.specs.Operators.{is_bodiless}
 

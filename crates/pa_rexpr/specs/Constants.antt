@@ -1,20 +1,18 @@
 -- Constant expressions (C11 6.6), of typed trees.
-use Rattle.std.specs.Prelude.{ℕ, suc, ◌-◌, ◌^◌, nat_lt, ℤ, pos, negsuc, ◌+ℤ◌, ◌-ℤ◌, ◌*ℤ◌, neg_ℤ, int_lt, int_le, int_div, int_rem, bit_and, bit_or, bit_xor, Bool, true, false, not, ◌&&◌, if◌then◌else◌, Option, Some, None, Result, Ok, Err}
-use Rattle.std.specs.Int.{w64, cast_signed, int_rem_euclid, int_div_euclid}
+use Rattle.std.specs.Prelude.{ℕ, ℤ, pos, Bool, true, false, not, ◌&&◌, if◌then◌else◌, Option, Some, None, is_some, Result, Ok, Err}
 use Rattle.pa_ctype.specs.Types.{TypeTree, Of}
 use Rattle.pa_ctype.specs.Types as ty
 use Rattle.pa_typed.specs.declared.expr.UnaryOperation.{UnaryOperation}
 use Rattle.pa_typed.specs.declared.expr.UnaryOperation.TheVariants as unary
 use Rattle.pa_typed.specs.declared.expr.BinaryOperation.{BinaryOperation}
 use Rattle.pa_typed.specs.declared.expr.BinaryOperation.TheVariants as binary
-use Rattle.pa_typed.specs.declared.expr.Comparison.{Comparison}
-use Rattle.pa_typed.specs.declared.expr.Comparison.TheVariants as comparison
 use Rattle.pa_typed.specs.Typed.{TypedExpr}
 use Rattle.pa_typed.specs.Typed as to
-use Rattle.pa_rexpr.specs.declared.rule.TypeRule.{TypeRule}
-use Rattle.pa_rexpr.specs.declared.rule.TypeRule.TheVariants.{C11, C13, C14}
-use Rattle.pa_rexpr.specs.Answers.{Answer, breaks_at}
-use Rattle.pa_rexpr.specs.Conversions.{is_integer, is_pointer, is_void}
+use Rattle.pa_integer.specs.Integers.{is_zero, of_bits, wrapped, amount, arithmetic, negated, complemented, compares}
+use Rattle.pa_scope.specs.declared.rule.TypeRule.{TypeRule}
+use Rattle.pa_scope.specs.declared.rule.TypeRule.TheVariants.{C11, C13, C14}
+use Rattle.pa_scope.specs.Answers.{Answer, breaks_at}
+use Rattle.pa_convert.specs.Conversions.{is_integer, is_pointer, is_void}
 use Rattle.pa_rexpr.specs.Values.{Typed}
 
 -- Why an expression is no constant: it has an operand or an operation that none may have, or a value that its type hasn't (6.6p4).
@@ -31,42 +29,20 @@ Evaluated = Result ℤ Flaw
 
 -- ---- numbers of a type (6.2.6.2)
 
-abbrev pub magnitude : ℤ → ℕ
-magnitude (pos n) = n
-magnitude (negsuc n) = suc n
-
-abbrev pub residue : ℕ → ℤ → ℕ
-residue bits z = magnitude (int_rem_euclid z (pos (2 ^ bits)))
-
-abbrev pub signed_residue : ℕ → ℕ → ℤ
-signed_residue bits low = if nat_lt low (2 ^ (bits - 1)) then pos low else pos low -ℤ pos (2 ^ bits)
-
-abbrev pub equal_integers : ℤ → ℤ → Bool
-equal_integers a b = int_le a b && int_le b a
-
 abbrev pub truth : Bool → ℤ
 truth true = pos 1
 truth false = pos 0
 
-abbrev pub is_zero : ℤ → Bool
-is_zero z = equal_integers z (pos 0)
-
 -- what is left of a number in a type (6.3.1.2, 6.3.1.3); narrowing to a signed type wraps
 abbrev pub in_type : TypeTree → ℤ → ℤ
 in_type (Of c ty.Boolean) z = truth (not (is_zero z))
-in_type (Of c (ty.Integer bits true)) z = signed_residue bits (residue bits z)
-in_type (Of c (ty.Integer bits false)) z = pos (residue bits z)
+in_type (Of c (ty.Integer bits signed)) z = wrapped bits signed z
 in_type t z = z
 
 -- the number that 64 bits of two's complement stand for in a type
 abbrev pub number_in : TypeTree → ℕ → ℤ
-number_in (Of c (ty.Integer bits true)) word = cast_signed w64 word
+number_in (Of c (ty.Integer bits signed)) word = of_bits 64 signed word
 number_in t word = pos word
-
--- the result of signed arithmetic has to be in its type (6.5p5); that of unsigned arithmetic wraps (6.2.5p9)
-abbrev pub result_in : TypeTree → ℤ → Evaluated
-result_in (Of c (ty.Integer bits true)) z = if equal_integers (in_type (Of c (ty.Integer bits true)) z) z then Ok z else Err OutOfRange
-result_in t z = Ok (in_type t z)
 
 abbrev pub width : TypeTree → ℕ
 width (Of c (ty.Integer bits signed)) = bits
@@ -86,59 +62,36 @@ abbrev pub with_operand : Evaluated → (ℤ → Evaluated) → Evaluated
 with_operand (Ok a) f = f a
 with_operand (Err flaw) f = Err flaw
 
+-- a result that an operator has none of lies outside its type (6.5p5)
+abbrev pub valued : Option ℤ → Evaluated
+valued None = Err OutOfRange
+valued (Some z) = Ok z
+
+-- the bits and the sign of an integer type, with which an operator is worked out
+abbrev pub in_integer : TypeTree → (ℕ → Bool → Option ℤ) → Evaluated
+in_integer (Of c (ty.Integer bits signed)) result = valued (result bits signed)
+in_integer t result = Err OutOfRange
+
 -- a right operand that may stand there (6.5.5p5, 6.5.7p3)
 abbrev pub is_allowed : BinaryOperation → TypeTree → ℤ → Bool
 is_allowed binary.Divide of b = not (is_zero b)
 is_allowed binary.Remainder of b = not (is_zero b)
-is_allowed binary.ShiftLeft of b = int_le (pos 0) b && int_lt b (pos (width of))
-is_allowed binary.ShiftRight of b = int_le (pos 0) b && int_lt b (pos (width of))
+is_allowed binary.ShiftLeft of b = is_some (amount (width of) b)
+is_allowed binary.ShiftRight of b = is_some (amount (width of) b)
 is_allowed op of b = true
 
 abbrev pub asked : BinaryOperation → TypeTree → Evaluated → Evaluated → Evaluated
 asked op of (Ok b) result = if is_allowed op of b then result else Err NotConstant
 asked op of (Err flaw) result = result
 
-abbrev pub power : ℤ → ℤ
-power (pos n) = pos (2 ^ n)
-power (negsuc n) = pos 1
-
--- a shift to the left of a negative number has no value (6.5.7p4)
-abbrev pub shifted_left : TypeTree → ℤ → ℤ → Evaluated
-shifted_left of a b = if int_lt a (pos 0) then Err OutOfRange else result_in of (a *ℤ power b)
-
--- nor has a remainder whose quotient has none (6.5.5p6)
-abbrev pub remainder : TypeTree → ℤ → ℤ → Evaluated
-remainder of a b = with_operand (result_in of (int_div a b)) (λ quotient. result_in of (int_rem a b))
-
-abbrev pub bitwise : (ℕ → ℕ → ℕ) → TypeTree → ℤ → ℤ → Evaluated
-bitwise f of a b = Ok (in_type of (pos (f (residue 64 a) (residue 64 b))))
-
 -- 6.5.5 to 6.5.7, 6.5.10 to 6.5.12, in a type
 abbrev pub operated : BinaryOperation → TypeTree → ℤ → ℤ → Evaluated
-operated binary.Multiply of a b = result_in of (a *ℤ b)
-operated binary.Divide of a b = result_in of (int_div a b)
-operated binary.Remainder of a b = remainder of a b
-operated binary.Add of a b = result_in of (a +ℤ b)
-operated binary.Subtract of a b = result_in of (a -ℤ b)
-operated binary.ShiftLeft of a b = shifted_left of a b
-operated binary.ShiftRight of a b = Ok (int_div_euclid a (power b))
-operated binary.And of a b = bitwise bit_and of a b
-operated binary.Xor of a b = bitwise bit_xor of a b
-operated binary.Or of a b = bitwise bit_or of a b
-
--- 6.5.8, 6.5.9
-abbrev pub compared : Comparison → ℤ → ℤ → Bool
-compared comparison.Less a b = int_lt a b
-compared comparison.Greater a b = int_lt b a
-compared comparison.LessEqual a b = int_le a b
-compared comparison.GreaterEqual a b = int_le b a
-compared comparison.Equal a b = equal_integers a b
-compared comparison.NotEqual a b = not (equal_integers a b)
+operated op of a b = in_integer of (λ bits signed. arithmetic op bits signed a b)
 
 -- 6.5.3.3
 abbrev pub operated_one : UnaryOperation → TypeTree → ℤ → Evaluated
-operated_one unary.Minus of a = result_in of (neg_ℤ a)
-operated_one unary.Complement of a = Ok (in_type of (negsuc 0 -ℤ a))
+operated_one unary.Minus of a = in_integer of (λ bits signed. negated bits signed a)
+operated_one unary.Complement of a = in_integer of (λ bits signed. complemented bits signed a)
 operated_one unary.Not of a = Ok (truth (is_zero a))
 
 -- ---- integer constant expressions (6.6p6)
@@ -161,7 +114,7 @@ evaluated (to.Number value of) = Ok (number_in of value)
 evaluated (to.Convert e of) = with_operand (evaluated e) (λ a. Ok (in_type of a))
 evaluated (to.Unary op e of) = with_operand (evaluated e) (operated_one op of)
 evaluated (to.Binary op left right of) = asked op of (evaluated right) (both (evaluated left) (evaluated right) (operated op of))
-evaluated (to.Compare op left right of) = both (evaluated left) (evaluated right) (λ a b. Ok (truth (compared op a b)))
+evaluated (to.Compare op left right of) = both (evaluated left) (evaluated right) (λ a b. Ok (truth (compares op a b)))
 evaluated (to.And left right of) = with_operand (evaluated left) (λ a. if is_zero a then Ok (pos 0) else with_operand (evaluated right) (λ b. Ok (truth (not (is_zero b)))))
 evaluated (to.Or left right of) = with_operand (evaluated left) (λ a. if is_zero a then with_operand (evaluated right) (λ b. Ok (truth (not (is_zero b)))) else Ok (pos 1))
 evaluated (to.Choose test when_true when_false of) = with_operand (evaluated test) (λ a. if is_zero a then evaluated when_false else evaluated when_true)

@@ -10,13 +10,13 @@ use Rattle.pa_tree.specs.Exprs as tree
 use Rattle.pa_tree.specs.Files.{declared_name}
 use Rattle.pa_ctype.specs.Types.{TypeTree, Of, Boolean, Pointer, Array, Struct, Function, TypeTrees, Nil, Cons}
 use Rattle.pa_ctype.specs.Layouts.{Table}
-use Rattle.pa_rexpr.specs.declared.rule.TypeRule.{TypeRule}
-use Rattle.pa_rexpr.specs.declared.rule.TypeRule.TheVariants.{C1, C2, C11, C14, C17, C18, C19, C22, C23, C24}
-use Rattle.pa_rexpr.specs.Answers.{Answer, breaks_at, then_with, checked}
-use Rattle.pa_rexpr.specs.Conversions.{integer, int, void, is_function, is_array, is_struct, is_function_pointer, is_complete, is_bounded, schema_of, adjusted}
+use Rattle.pa_scope.specs.declared.rule.TypeRule.{TypeRule}
+use Rattle.pa_scope.specs.declared.rule.TypeRule.TheVariants.{C1, C2, C11, C14, C17, C18, C19, C22, C23, C24}
+use Rattle.pa_scope.specs.Answers.{Answer, breaks_at, then_with, checked}
+use Rattle.pa_convert.specs.Conversions.{integer, int, void, is_function, is_array, is_struct, is_function_pointer, is_complete, is_bounded, schema_of, adjusted}
 use Rattle.pa_ctype.specs.Qualifiers.{with_const, without_const}
 use Rattle.pa_rexpr.specs.Names.{is_reserved}
-use Rattle.pa_rexpr.specs.Scope.{Spelling, Scope, Meaning, Local, TypeName, meaning, in_block, with_name, tagged, struct_tag, has_enum_tag}
+use Rattle.pa_scope.specs.Scope.{Spelling, Scope, Meaning, Local, TypeName, meaning, in_block, with_name, tagged, struct_tag, has_enum_tag}
 
 -- ---- what a type is for, and what a declarator stands on
 

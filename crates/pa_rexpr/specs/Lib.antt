@@ -1,12 +1,9 @@
-pub mod Answers
 pub mod Calls
 pub mod Constants
-pub mod Conversions
 pub mod Declarators
 pub mod Names
 pub mod Operators
 pub mod Places
 pub mod Rules
-pub mod Scope
 pub mod Typing
 pub mod Values

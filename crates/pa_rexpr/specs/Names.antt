@@ -7,11 +7,12 @@ use Rattle.pa_tree.specs.Exprs.{ExprTree, ExprTrees}
 use Rattle.pa_tree.specs.Exprs as tree
 use Rattle.pa_ctype.specs.Types.{TypeTree, Of, Array}
 use Rattle.pa_typed.specs.Typed as to
-use Rattle.pa_rexpr.specs.declared.rule.TypeRule.TheVariants.{C1, C14, C24}
-use Rattle.pa_rexpr.specs.Answers.{Answer, breaks_at}
-use Rattle.pa_rexpr.specs.Conversions.{char, int, unsigned_int, long, unsigned_long, pointer_to, is_function}
-use Rattle.pa_rexpr.specs.Scope.{Spelling, Scope, Meaning, Local, Global, Constant, meaning}
-use Rattle.pa_rexpr.specs.Values.{Typed, Value, lvalue, value, designator}
+use Rattle.pa_scope.specs.declared.rule.TypeRule.TheVariants.{C1, C14, C24}
+use Rattle.pa_scope.specs.Answers.{Answer, breaks_at}
+use Rattle.pa_convert.specs.Conversions.{char, int, unsigned_int, long, unsigned_long, pointer_to, is_function}
+use Rattle.pa_scope.specs.Scope.{Spelling, Scope, Meaning, Local, Global, Constant, meaning}
+use Rattle.pa_rexpr.specs.Values.{Typed, lvalue, value, designator}
+use Rattle.pa_rexpr.specs.declared.category.Category.TheVariants.{Value}
 
 -- ---- names (6.5.1p2)
 

@@ -12,9 +12,9 @@ use Rattle.pa_typed.specs.declared.expr.Comparison.TheVariants as comparison
 use Rattle.pa_ctype.specs.Types.{TypeTree}
 use Rattle.pa_ctype.specs.Layouts.{Table}
 use Rattle.pa_typed.specs.Typed as to
-use Rattle.pa_rexpr.specs.declared.rule.TypeRule.TheVariants.{C5, C6, C7, C10, C11}
-use Rattle.pa_rexpr.specs.Answers.{Answer, breaks_at}
-use Rattle.pa_rexpr.specs.Conversions.{int, long, void, is_integer, is_pointer, is_void, is_struct, is_scalar, is_complete, is_movable, is_function_pointer, promoted, common, common_pointer}
+use Rattle.pa_scope.specs.declared.rule.TypeRule.TheVariants.{C5, C6, C7, C10, C11}
+use Rattle.pa_scope.specs.Answers.{Answer, breaks_at}
+use Rattle.pa_convert.specs.Conversions.{int, long, void, is_integer, is_pointer, is_void, is_struct, is_scalar, is_complete, is_movable, is_function_pointer, promoted, common, common_pointer}
 use Rattle.pa_rexpr.specs.Values.{Typed, value, temporary, converted, same_struct}
 
 -- ---- one operand (6.5.3.3)

@@ -13,11 +13,13 @@ use Rattle.pa_ctype.specs.Types as ty
 use Rattle.pa_ctype.specs.Layouts.{Field, Body, Table, body_of, member_of, layout_in}
 use Rattle.pa_typed.specs.Typed.{TypedExpr}
 use Rattle.pa_typed.specs.Typed as to
-use Rattle.pa_rexpr.specs.declared.rule.TypeRule.TheVariants.{C3, C4, C5, C11, C12}
-use Rattle.pa_rexpr.specs.Answers.{Answer, breaks_at, then_with, at_place}
-use Rattle.pa_rexpr.specs.Conversions.{int, unsigned_long, pointer_to, value_type, schema_of, is_integer, is_void, is_array, is_function, is_movable, target}
+use Rattle.pa_scope.specs.declared.rule.TypeRule.TheVariants.{C3, C4, C5, C11, C12}
+use Rattle.pa_scope.specs.Answers.{Answer, breaks_at, then_with, at_place}
+use Rattle.pa_convert.specs.Conversions.{int, unsigned_long, pointer_to, value_type, schema_of, is_integer, is_void, is_array, is_function, is_movable, target}
 use Rattle.pa_ctype.specs.Qualifiers.{with_const}
-use Rattle.pa_rexpr.specs.Values.{Typed, Category, Lvalue, Designator, lvalue, value, designator, read, given}
+use Rattle.pa_rexpr.specs.Values.{Typed, lvalue, value, designator, read, given}
+use Rattle.pa_rexpr.specs.declared.category.Category.{Category}
+use Rattle.pa_rexpr.specs.declared.category.Category.TheVariants.{Lvalue, Designator}
 use Rattle.pa_rexpr.specs.Operators.{binary_value}
 
 -- ---- what a pointer points to (6.5.3.2, 6.5.2.1)

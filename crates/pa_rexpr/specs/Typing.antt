@@ -10,9 +10,9 @@ use Rattle.pa_ctype.specs.Types.{TypeTree}
 use Rattle.pa_ctype.specs.Layouts.{Table}
 use Rattle.pa_typed.specs.Typed.{TypedExpr}
 use Rattle.pa_typed.specs.declared.expr.UnaryOperation.TheVariants as unary
-use Rattle.pa_rexpr.specs.declared.rule.TypeRule.TheVariants.{C24}
-use Rattle.pa_rexpr.specs.Answers.{Answer, breaks_at, then_with, in_order, checked}
-use Rattle.pa_rexpr.specs.Scope.{Spelling, Scope, Meaning, Discriminator, meaning, entered, left}
+use Rattle.pa_scope.specs.declared.rule.TypeRule.TheVariants.{C24}
+use Rattle.pa_scope.specs.Answers.{Answer, breaks_at, then_with, in_order, checked}
+use Rattle.pa_scope.specs.Scope.{Spelling, Scope, Meaning, Discriminator, meaning, entered, left}
 use Rattle.pa_rexpr.specs.Values.{Typed, read}
 use Rattle.pa_rexpr.specs.Constants.{constant_at}
 use Rattle.pa_rexpr.specs.Operators.{plus, with_sign, negated, conditional}

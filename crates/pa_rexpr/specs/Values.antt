@@ -7,17 +7,12 @@ use Rattle.pa_ctype.specs.Equality.{same_but_const}
 use Rattle.pa_ctype.specs.Layouts.{Table}
 use Rattle.pa_typed.specs.Typed.{TypedExpr}
 use Rattle.pa_typed.specs.Typed as to
-use Rattle.pa_rexpr.specs.declared.rule.TypeRule.{TypeRule}
-use Rattle.pa_rexpr.specs.declared.rule.TypeRule.TheVariants.{C7, C10, C11, C23}
-use Rattle.pa_rexpr.specs.Conversions.{pointer_to, value_type, schema_of, is_integer, is_boolean, is_pointer, is_void, is_struct, is_complete, takes}
+use Rattle.pa_rexpr.specs.declared.category.Category.{Category}
+use Rattle.pa_rexpr.specs.declared.category.Category.TheVariants.{Lvalue, Temporary, Value, Designator}
+use Rattle.pa_scope.specs.declared.rule.TypeRule.{TypeRule}
+use Rattle.pa_scope.specs.declared.rule.TypeRule.TheVariants.{C7, C10, C11, C23}
+use Rattle.pa_convert.specs.Conversions.{pointer_to, value_type, schema_of, is_integer, is_boolean, is_pointer, is_void, is_struct, is_complete, takes}
 use Rattle.pa_ctype.specs.Qualifiers.{same_bare}
-
--- An lvalue (6.3.2.1p1); a place that is none, as a struct that `?:` or a comma gives; a value; a function (6.3.2.1p4).
-pub data Category : Type 0 where
-  Lvalue : Category
-  Temporary : Category
-  Value : Category
-  Designator : Category
 
 -- An expression with its type. Of an lvalue or a temporary the tree is its place, of a function its pointer. `null`: it is the
 -- literal 0, or `NULL`, and converts to every pointer (6.3.2.3p3).
@@ -70,12 +65,21 @@ converted wanted e = if same_bare wanted e.of then e.tree else to.Convert e.tree
 abbrev pub same_struct : TypeTree → TypeTree → Bool
 same_struct a b = is_struct a && (is_struct b && same_but_const a b)
 
--- a value that is given to a place of a type: in an assignment, an initializer, as an argument or a result
+-- The rule that a value of a type breaks where it is given to a place of a type: in an assignment, an initializer, as an argument
+-- or a result. `null`: it is null.
+abbrev pub given_rule : Table → TypeTree → TypeTree → Bool → Option TypeRule
+given_rule table wanted of null =
+    if is_void of then Some C11
+    else if is_integer wanted && is_integer of then None
+    else if is_pointer wanted && is_pointer of then (if takes wanted of then None else Some C7)
+    else if (is_pointer wanted && null) || (is_boolean wanted && is_pointer of) then None
+    else if same_struct wanted of then Some (if is_complete table wanted then C23 else C11)
+    else Some C10
+
+abbrev pub unless_broken : {A : Type 0} → Option TypeRule → A → Result A TypeRule
+unless_broken None x = Ok x
+unless_broken (Some rule) x = Err rule
+
+-- the value in the type of the place
 abbrev pub given : Table → TypeTree → Typed → Result TypedExpr TypeRule
-given table wanted e =
-    if is_void e.of then Err C11
-    else if is_integer wanted && is_integer e.of then Ok (converted wanted e)
-    else if is_pointer wanted && is_pointer e.of then (if takes wanted e.of then Ok (converted wanted e) else Err C7)
-    else if (is_pointer wanted && e.null) || (is_boolean wanted && is_pointer e.of) then Ok (converted wanted e)
-    else if same_struct wanted e.of then Err (if is_complete table wanted then C23 else C11)
-    else Err C10
+given table wanted e = unless_broken (given_rule table wanted e.of e.null) (converted wanted e)

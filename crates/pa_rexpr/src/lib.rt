@@ -1,6 +1,6 @@
 //! Which typed form an expression of C has, or the first rule that it breaks and where.
 #![tactic(auto)]
 
-mod rule;
+mod category;
 
-pub use rule::TypeRule;
+pub use category::Category;

@@ -8,7 +8,7 @@ use Rattle.pa_tree.specs.declared.file.Storage.TheVariants as storage
 use Rattle.pa_tree.specs.Exprs as tree
 use Rattle.pa_tree.specs.Stmts as src
 use Rattle.pa_tree.specs.Stmts.{FileTree}
-use Rattle.pa_rexpr.specs.Answers.{Answer}
+use Rattle.pa_scope.specs.Answers.{Answer}
 use Rattle.pa_typed.specs.Units.{UnitTree}
 use Rattle.pa_runit.specs.Units.{typed}
 use Rattle.pa_runit.proofs.Computing.{computing}

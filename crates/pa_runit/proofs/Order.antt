@@ -1,11 +1,11 @@
 -- Files are gone through from their beginning: a file that goes on from one that breaks a rule breaks that rule, at that place.
 use Rattle.std.proofs.Common.{◌≡◌, ℕ, [], ◌∷◌, ◌++◌, Ok, Err, refl}
 use Rattle.pa_tree.specs.Stmts.{FileTree}
-use Rattle.pa_rexpr.specs.declared.rule.TypeRule.{TypeRule}
-use Rattle.pa_rexpr.specs.Answers.{Answer, Broken, breaks_at, then_with}
+use Rattle.pa_scope.specs.declared.rule.TypeRule.{TypeRule}
+use Rattle.pa_scope.specs.Answers.{Answer, Broken, breaks_at, then_with}
 use Rattle.pa_typed.specs.Units.{UnitTree}
 use Rattle.pa_runit.specs.Units.{Reading, nothing_read, file_item, file_items, unit_of, typed}
-use Rattle.pa_rexpr.specs.Scope.{Spelling}
+use Rattle.pa_scope.specs.Scope.{Spelling}
 
 -- a part, and then two more
 in_turn : {A B : Type 0} (x : Answer A) (f g : A → Answer B) (h : B → Answer B) → ((a : A) → f a ≡ then_with (g a) h) → then_with x f ≡ then_with (then_with x g) h

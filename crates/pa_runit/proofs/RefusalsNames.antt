@@ -8,8 +8,8 @@ use Rattle.pa_tree.specs.declared.operator.IntegerWord.TheVariants as word
 use Rattle.pa_tree.specs.declared.file.Storage.TheVariants as storage
 use Rattle.pa_tree.specs.Exprs as tree
 use Rattle.pa_tree.specs.Stmts as src
-use Rattle.pa_rexpr.specs.Answers.{breaks_at}
-use Rattle.pa_rexpr.specs.declared.rule.TypeRule.TheVariants.{C1, C2, C3, C4, C5, C6}
+use Rattle.pa_scope.specs.Answers.{breaks_at}
+use Rattle.pa_scope.specs.declared.rule.TypeRule.TheVariants.{C1, C2, C3, C4, C5, C6}
 use Rattle.pa_runit.specs.Units.{typed}
 use Rattle.pa_runit.proofs.Computing.{computing}
 use Rattle.pa_rexpr.proofs.Spelled.{names}

@@ -6,8 +6,8 @@ use Rattle.pa_tree.specs.declared.operator.IntegerWord.TheVariants as word
 use Rattle.pa_tree.specs.declared.file.Storage.TheVariants as storage
 use Rattle.pa_tree.specs.Exprs as tree
 use Rattle.pa_tree.specs.Stmts as src
-use Rattle.pa_rexpr.specs.Answers.{breaks_at}
-use Rattle.pa_rexpr.specs.declared.rule.TypeRule.TheVariants.{C7, C8, C9, C10, C11, C12}
+use Rattle.pa_scope.specs.Answers.{breaks_at}
+use Rattle.pa_scope.specs.declared.rule.TypeRule.TheVariants.{C7, C8, C9, C10, C11, C12}
 use Rattle.pa_runit.specs.Units.{typed}
 use Rattle.pa_runit.proofs.Computing.{computing}
 use Rattle.pa_rexpr.proofs.Spelled.{names}

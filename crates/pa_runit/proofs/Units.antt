@@ -9,7 +9,7 @@ use Rattle.pa_tree.specs.declared.file.Storage.TheVariants as storage
 use Rattle.pa_tree.specs.Exprs as tree
 use Rattle.pa_tree.specs.Stmts as src
 use Rattle.pa_tree.specs.Stmts.{FileTree}
-use Rattle.pa_rexpr.specs.Answers.{Answer}
+use Rattle.pa_scope.specs.Answers.{Answer}
 use Rattle.pa_typed.specs.Units.{UnitTree, LocalTree, CellTree, GlobalTree}
 use Rattle.pa_runit.specs.Units.{typed}
 use Rattle.pa_runit.proofs.Computing.{computing}
@@ -17,7 +17,7 @@ use Rattle.pa_ctype.specs.Types.{TypeTree, Of, Array, Struct, Function, Nil, Con
 use Rattle.pa_typed.specs.declared.expr.BinaryOperation.TheVariants as binary
 use Rattle.pa_typed.specs.declared.expr.Comparison.TheVariants as comparison
 use Rattle.pa_typed.specs.Typed.{TypedExpr, LocalPlace, StringPlace, Same, Deref, Number, Load, Store, AddressOf, Convert, Binary, Compare, GivenValue, GivenText, Evaluates, Compound, InitLocal, Expression, For, Switch, Case, Default, Break, Return, NoTStmts, ConsTStmt}
-use Rattle.pa_rexpr.specs.Conversions.{char, int, long, unsigned_long, void, pointer_to}
+use Rattle.pa_convert.specs.Conversions.{char, int, long, unsigned_long, void, pointer_to}
 use Rattle.pa_rexpr.proofs.Spelled.{names}
 
 abbrev array : TypeTree → ℕ → TypeTree

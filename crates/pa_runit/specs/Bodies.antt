@@ -6,11 +6,12 @@ use Rattle.pa_tree.specs.Exprs.{SpecsTree, BaseTree, MemberTree, MemberTrees, En
 use Rattle.pa_tree.specs.Exprs as tree
 use Rattle.pa_ctype.specs.Types.{TypeTree, Of, Struct}
 use Rattle.pa_ctype.specs.Layouts.{Body, layout_in, struct_layout}
-use Rattle.pa_rexpr.specs.declared.rule.TypeRule.TheVariants.{C2, C11, C14}
-use Rattle.pa_rexpr.specs.Answers.{Answer, breaks_at, then_with}
-use Rattle.pa_rexpr.specs.Constants.{constant_at, in_type, equal_integers}
-use Rattle.pa_rexpr.specs.Conversions.{int, is_complete, is_bounded}
-use Rattle.pa_rexpr.specs.Scope.{Spelling, Scope, Constant, declared, Found, tagged, with_struct, with_enum_tag}
+use Rattle.pa_scope.specs.declared.rule.TypeRule.TheVariants.{C2, C11, C14}
+use Rattle.pa_scope.specs.Answers.{Answer, breaks_at, then_with}
+use Rattle.pa_integer.specs.Integers.{same_int}
+use Rattle.pa_rexpr.specs.Constants.{constant_at, in_type}
+use Rattle.pa_convert.specs.Conversions.{int, is_complete, is_bounded}
+use Rattle.pa_scope.specs.Scope.{Spelling, Scope, Constant, declared, Found, tagged, with_struct, with_enum_tag}
 use Rattle.pa_rexpr.specs.Names.{from_of}
 use Rattle.pa_rexpr.specs.Values.{read}
 use Rattle.pa_rexpr.specs.Declarators.{Name, Base, Based, based, base_type, bearer_of, front_type, front_qualifiers, qualified_base, built, name_of, name_place, declarator_from, forbids_schema}
@@ -35,7 +36,7 @@ enumerator_value spelling place c (tree.SomeExpr e) =
 
 -- it is an `int` (6.7.2.2p2)
 abbrev pub counted : Told → Scope → Answer Counted
-counted t s = if equal_integers (in_type int t.value) t.value then Ok (record { next = t.value +ℤ pos 1; scope = s }) else breaks_at C14 t.place
+counted t s = if same_int (in_type int t.value) t.value then Ok (record { next = t.value +ℤ pos 1; scope = s }) else breaks_at C14 t.place
 
 abbrev pub enumerator : Spelling → Counted → EnumeratorTree → Answer Counted
 enumerator spelling c (tree.OfEnumerator name value a z) =

@@ -3,10 +3,10 @@ use Rattle.std.specs.Prelude.{ℕ, pos, negsuc, Bool, true, false, ◌||◌, if�
 use Rattle.pa_lex.specs.declared.token.Include.{Include}
 use Rattle.pa_lex.specs.declared.token.Include.TheVariants as include
 use Rattle.pa_ctype.specs.Types.{TypeTree, Of, Function, Nil, Cons}
-use Rattle.pa_rexpr.specs.Answers.{Answer, breaks_at, then_with}
-use Rattle.pa_rexpr.specs.Conversions.{int, integer}
-use Rattle.pa_rexpr.specs.Scope.{Scope, Declaration, Meaning, Global, Constant, TypeName, Discriminator, declared, is_twice}
-use Rattle.pa_rexpr.specs.declared.rule.TypeRule.TheVariants.{C2}
+use Rattle.pa_scope.specs.Answers.{Answer, breaks_at, then_with}
+use Rattle.pa_convert.specs.Conversions.{int, integer}
+use Rattle.pa_scope.specs.Scope.{Scope, Declaration, Meaning, Global, Constant, TypeName, Discriminator, declared, is_twice}
+use Rattle.pa_scope.specs.declared.rule.TypeRule.TheVariants.{C2}
 
 abbrev pub brings : List ℕ → Meaning → Declaration
 brings name means = record { name = name; means = means }

@@ -12,12 +12,12 @@ use Rattle.pa_ctype.specs.Types.{TypeTree, Of, Integer, Array, Struct}
 use Rattle.pa_ctype.specs.Layouts.{Body, Table, body_of, layout_in, placed, empty}
 use Rattle.pa_typed.specs.Typed.{TypedExpr, TypedInitial, TypedGiven, GivenValue, GivenText}
 use Rattle.pa_typed.specs.Typed as to
-use Rattle.pa_rexpr.specs.declared.rule.TypeRule.{TypeRule}
-use Rattle.pa_rexpr.specs.declared.rule.TypeRule.TheVariants.{C10, C13, C23, C25}
-use Rattle.pa_rexpr.specs.Answers.{Answer, breaks_at, then_with, at_place}
+use Rattle.pa_scope.specs.declared.rule.TypeRule.{TypeRule}
+use Rattle.pa_scope.specs.declared.rule.TypeRule.TheVariants.{C10, C13, C23, C25}
+use Rattle.pa_scope.specs.Answers.{Answer, breaks_at, then_with, at_place}
 use Rattle.pa_rexpr.specs.Constants.{Flaw, flaw_rule, initial_flaw, in_type}
-use Rattle.pa_rexpr.specs.Conversions.{is_scalar, value_type}
-use Rattle.pa_rexpr.specs.Scope.{Spelling, Scope, with_length}
+use Rattle.pa_convert.specs.Conversions.{is_scalar, value_type}
+use Rattle.pa_scope.specs.Scope.{Spelling, Scope, with_length}
 use Rattle.pa_rexpr.specs.Values.{Typed, read, given}
 use Rattle.pa_rexpr.specs.Names.{text_of, texts, from_of}
 use Rattle.pa_rexpr.specs.Typing.{typing}

@@ -9,12 +9,13 @@ use Rattle.pa_ctype.specs.Types.{TypeTree, Of, Array}
 use Rattle.pa_ctype.specs.Layouts.{Table, layout_in}
 use Rattle.pa_typed.specs.Typed.{TypedExpr, TypedInitial, TypedLocalInit, TypedForStart, TypedStmt, TypedStmts}
 use Rattle.pa_typed.specs.Typed as to
-use Rattle.pa_rexpr.specs.declared.rule.TypeRule.{TypeRule}
-use Rattle.pa_rexpr.specs.declared.rule.TypeRule.TheVariants.{C5, C6, C11, C20, C21, C27}
-use Rattle.pa_rexpr.specs.Answers.{Answer, breaks_at, then_with, at_place, checked}
-use Rattle.pa_rexpr.specs.Constants.{constant_at, in_type, equal_integers}
-use Rattle.pa_rexpr.specs.Conversions.{long, is_integer, is_scalar, is_void, is_complete, is_bounded, promoted}
-use Rattle.pa_rexpr.specs.Scope.{Spelling, Scope, Local, declared, entered, left, completed, with_length}
+use Rattle.pa_scope.specs.declared.rule.TypeRule.{TypeRule}
+use Rattle.pa_scope.specs.declared.rule.TypeRule.TheVariants.{C5, C6, C11, C20, C21, C27}
+use Rattle.pa_scope.specs.Answers.{Answer, breaks_at, then_with, at_place, checked}
+use Rattle.pa_integer.specs.Integers.{same_int}
+use Rattle.pa_rexpr.specs.Constants.{constant_at, in_type}
+use Rattle.pa_convert.specs.Conversions.{long, is_integer, is_scalar, is_void, is_complete, is_bounded, promoted}
+use Rattle.pa_scope.specs.Scope.{Spelling, Scope, Local, declared, entered, left, completed, with_length}
 use Rattle.pa_rexpr.specs.Values.{Typed, read, converted, given}
 use Rattle.pa_rexpr.specs.Names.{texts, from_of}
 use Rattle.pa_rexpr.specs.Declarators.{Name, Base, built, name_of, name_place, declarator_from, forbids_schema}
@@ -198,7 +199,7 @@ switch_made place x body = if is_integer x.of then Ok (to.Switch (converted (pro
 
 abbrev pub has_case : List ℤ → ℤ → Bool
 has_case [] z = false
-has_case (c ∷ cs) z = equal_integers c z || has_case cs z
+has_case (c ∷ cs) z = same_int c z || has_case cs z
 
 abbrev pub with_case : ℤ → Here → Here
 with_case z here = record here { labels = record here.labels { cases = z ∷ here.labels.cases } }

@@ -13,10 +13,10 @@ use Rattle.pa_ctype.specs.Types.{TypeTree, Of, Function}
 use Rattle.pa_ctype.specs.Layouts.{Table}
 use Rattle.pa_typed.specs.Typed.{TypedInitial, TypedGiven, GivenValue, GivenText, TypedStmts}
 use Rattle.pa_typed.specs.Typed as to
-use Rattle.pa_rexpr.specs.declared.rule.TypeRule.TheVariants.{C2, C10, C11}
-use Rattle.pa_rexpr.specs.Answers.{Answer, breaks_at, then_with}
-use Rattle.pa_rexpr.specs.Conversions.{void, is_function, is_bounded}
-use Rattle.pa_rexpr.specs.Scope.{Spelling, Scope, Local, Global, TypeName, no_names, declared, is_twice, with_name, with_length, completed, entered, left}
+use Rattle.pa_scope.specs.declared.rule.TypeRule.TheVariants.{C2, C10, C11}
+use Rattle.pa_scope.specs.Answers.{Answer, breaks_at, then_with}
+use Rattle.pa_convert.specs.Conversions.{void, is_function, is_bounded}
+use Rattle.pa_scope.specs.Scope.{Spelling, Scope, Local, Global, TypeName, no_names, declared, is_twice, with_name, with_length, completed, entered, left}
 use Rattle.pa_rexpr.specs.Declarators.{Name, Base, Part, FunctionPart, Param, Walked, built, is_named, name_of, name_place, declarator_from, forbids_schema}
 use Rattle.pa_rexpr.specs.Typing.{parts_of}
 use Rattle.pa_runit.specs.Bodies.{file_specs}

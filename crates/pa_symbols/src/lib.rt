@@ -12,6 +12,3 @@ pub use legal::legal_marks;
 pub use places::{SymbolsAt, TextAt};
 pub use reading::read_symbols;
 pub use writing::{SymbolTables, put_strings, put_symbols, write_symbols};
-
-#[cfg(test)]
-mod tests;

@@ -17,6 +17,3 @@ pub use operator::{
     BinaryOperator, CAST_LEVEL, COND_LEVEL, IntegerWord, PrefixOperator, Step, UNARY_LEVEL,
 };
 pub use stmt::{BlockItem, ForStart, Stmt};
-
-#[cfg(test)]
-mod tests;

@@ -1,4 +1,4 @@
-use Rattle.std.proofs.Common.{arith, refl, sym, ◌∙◌, ap, Fits, w64}
+use Rattle.std.proofs.Common.{arith, sym, ◌∙◌, ap}
 use Rattle.pa_macho.specs.declared.places.Places.{Places}
 use Rattle.pa_check.proofs.Legal.{small}
 use Rattle.pa_check.proofs.Words.{text_stubs}

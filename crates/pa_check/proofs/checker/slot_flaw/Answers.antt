@@ -1,4 +1,3 @@
-use Rattle.std.proofs.Common.{refl}
 use Rattle.pa_check.proofs.Legal.{fixes_aligned}
 use Rattle.pa_check.proofs.checker.slot_flaw.Goals as goal
 

@@ -1,4 +1,4 @@
-use Rattle.std.proofs.Common.{arith, sym, ◌∙◌, ◌≡◌, ◌<◌, ◌≤◌, ◌/◌, ap, length, get_or}
+use Rattle.std.proofs.Common.{arith, sym, ◌∙◌, ◌≡◌, ◌<◌, ◌/◌, ap, length, get_or}
 use Rattle.pa_a64.specs.Decoding.{decoded}
 use Rattle.pa_check.specs.Rules.{stub_rule}
 use Rattle.pa_check.specs.Text.{text_of}

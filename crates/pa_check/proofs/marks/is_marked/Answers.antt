@@ -1,6 +1,6 @@
-use Rattle.std.proofs.Common.{arith, ℕ, ◌≤◌, ◌<◌, ◌+◌, ◌-◌, ◌/◌, length, ap, sym, ◌∙◌, ◌≡◌}
+use Rattle.std.proofs.Common.{arith, ℕ, ◌<◌, ◌+◌, ◌-◌, ◌/◌, length, ap, sym, ◌∙◌}
 use Rattle.std.specs.Prelude.{eqb}
-use Rattle.pa_check.proofs.Words.{mark_at, item_at, up_to, found, not_found}
+use Rattle.pa_check.proofs.Words.{item_at, up_to, found, not_found}
 use Rattle.pa_check.proofs.marks.is_marked.Goals as goal
 
 pub loop-low-preserved-then-marks-middle : goal.loop-low-preserved-then-marks-middle

@@ -1,5 +1,7 @@
-use Rattle.std.proofs.Common.{arith, refl, sym, ◌∙◌, ◌≡◌, ◌<◌, ◌≤◌, ◌^◌, subst, Some, None, ap}
-use Rattle.pa_check.specs.Text.{text_of, place}
+use Rattle.std.proofs.Common.{arith, refl, sym, ◌∙◌, ◌≡◌, ◌≤◌, subst, Some, None}
+use Rattle.std.specs.Prelude.{Option, IfSome, ◌+◌}
+use Rattle.pa_check.specs.declared.window.Window.{Window}
+use Rattle.pa_check.specs.Text.{text_of}
 use Rattle.pa_check.specs.Passing.{round_at, rule_at, IsPassed}
 use Rattle.pa_check.proofs.Legal.{small}
 use Rattle.pa_check.proofs.Words.{length-text}
@@ -11,8 +13,8 @@ use Rattle.pa_check.proofs.pass.function_flaw.Goals as goal
 pub loop-k-init : goal.loop-k-init
 loop-k-init c = record { passed = home (text_of c.args.image.now) c.args.function.first c.args.function.end c.requires.function; short = tt; seen = refl }
 
-pub instr_at-requires : goal.instr_at-requires
-instr_at-requires c = let a = c.requires.function.inside in let b = c.loop-k-test.true in let d = length-text c.args.image.now in omega arith
+pub instr_at-instr-requires : goal.instr_at-instr-requires
+instr_at-instr-requires c = let a = c.requires.function.inside in let b = c.loop-k-test.true in let d = length-text c.args.image.now in omega arith
 
 pub function_rule-requires-clause-small : goal.function_rule-requires-clause-small
 function_rule-requires-clause-small c = let a = c.requires.function.inside in let b = c.loop-k-test.true in let d = length-text c.args.image.now in let s = (small c.args.image.now c.requires.legal).text in omega arith
@@ -41,3 +43,14 @@ loop-k-preserved c =
       short = next_short (text_of c.args.image.now) c.loop-k.k _ (round_short (text_of c.args.image.now) c.loop-k.k c.loop-k.current v.short);
       seen = v.seen ∙ function_goes (text_of c.args.image.now) c.args.function.first c.args.function.end c.requires.function c.loop-k.k c.loop-k.current c.loop-k.auto.k c.loop-k-test.true v.passed e;
     })
+
+pub loop-k-preserved-then-breaks_nothing : goal.loop-k-preserved-then-breaks_nothing
+loop-k-preserved-then-breaks_nothing c =
+    let v = c.loop-k.invariant in
+    let n = rw c.if-breaks_nothing.true at c.breaks_nothing.ensures in
+    record {
+      passed = subst (λ z. IsPassed (text_of c.args.image.now) (c.loop-k.k + 1) c.args.function.first z) (n.behind ∙ sym n.closed)
+          (passed_in (text_of c.args.image.now) c.args.function.first c.args.function.end c.requires.function c.loop-k.k c.loop-k.current c.loop-k.auto.k c.loop-k-test.true v.passed);
+      short = subst (λ (z : Option Window). IfSome z (λ w. w.behind ≤ c.loop-k.k + 1)) (sym n.closed) tt;
+      seen = v.seen ∙ function_goes (text_of c.args.image.now) c.args.function.first c.args.function.end c.requires.function c.loop-k.k c.loop-k.current c.loop-k.auto.k c.loop-k-test.true v.passed n.rule;
+    }

@@ -1,8 +1,8 @@
-use Rattle.std.proofs.Common.{arith, refl, sym, ◌∙◌, ◌≡◌, ◌<◌, ◌≤◌, ◌+◌, ap, subst, Some, None}
-use Rattle.std.specs.Prelude.{min, false}
+use Rattle.std.proofs.Common.{arith, refl, sym, ◌∙◌, ◌≡◌, ap}
+use Rattle.std.specs.Prelude.{false}
 use Rattle.std.proofs.lemmas.Bool.{eqb-false}
-use Rattle.pa_check.specs.Text.{text_of, word_at, start_size}
-use Rattle.pa_check.specs.Passing.{start_in, start_words}
+use Rattle.pa_check.specs.Text.{text_of, word_at}
+use Rattle.pa_check.specs.Passing.{start_words}
 use Rattle.pa_check.specs.Windowed.{flaw_from}
 use Rattle.pa_check.proofs.Words.{length-text, text_main, text_start, marked_of}
 use Rattle.pa_check.proofs.Flaws.{start_step, start_unmarked, marked_first}

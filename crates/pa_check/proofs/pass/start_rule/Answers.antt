@@ -1,4 +1,4 @@
-use Rattle.std.proofs.Common.{arith, refl, sym, ◌∙◌}
+use Rattle.std.proofs.Common.{refl, sym}
 use Rattle.pa_check.specs.Text.{text_of}
 use Rattle.pa_check.proofs.Words.{marked_of}
 use Rattle.pa_check.proofs.pass.start_rule.Goals as goal

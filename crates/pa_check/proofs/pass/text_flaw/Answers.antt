@@ -1,7 +1,4 @@
-use Rattle.std.proofs.Common.{arith, refl, sym, ◌∙◌, ◌≡◌, ◌<◌, ◌≤◌, ap, length}
-use Rattle.pa_check.specs.Text.{text_of}
-use Rattle.pa_check.specs.Passing.{start_in, start_words}
-use Rattle.pa_check.specs.Windowed.{flaw_from}
+use Rattle.std.proofs.Common.{arith, refl, sym, ◌∙◌}
 use Rattle.pa_check.proofs.Words.{text_start}
 use Rattle.pa_check.proofs.Flaws.{cut_text, missing_text, whole_text}
 use Rattle.pa_check.proofs.pass.text_flaw.Goals as goal

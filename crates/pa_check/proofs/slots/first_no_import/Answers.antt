@@ -1,6 +1,5 @@
-use Rattle.std.proofs.Common.{arith, refl, sym, ◌∙◌, ap, ℕ, ◌<◌, ◌≤◌, ◌≡◌, ◌*◌, ◌/◌, ◌⊎◌, inl, inr, subst}
-use Rattle.std.proofs.lemmas.Bool.{cases_lt}
-use Rattle.pa_check.proofs.Lists.{no_import_stops, no_import_goes, no_import_ends, at_of, one_more}
+use Rattle.std.proofs.Common.{sym, ◌∙◌, ◌/◌}
+use Rattle.pa_check.proofs.Lists.{no_import_stops, no_import_goes, no_import_ends, one_more}
 use Rattle.pa_check.proofs.slots.first_no_import.Goals as goal
 
 pub returns-then-not-has_import-clause-value : goal.returns-then-not-has_import-clause-value

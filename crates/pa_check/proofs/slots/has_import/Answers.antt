@@ -1,5 +1,5 @@
-use Rattle.std.proofs.Common.{arith, refl, sym, ◌∙◌, ap}
-use Rattle.pa_check.proofs.Lists.{has_here, has_past, there_at}
+use Rattle.std.proofs.Common.{sym, ◌∙◌}
+use Rattle.pa_check.proofs.Lists.{has_here, has_past}
 use Rattle.pa_check.proofs.slots.has_import.Goals as goal
 
 pub returns-then-i-fixes-clause-value : goal.returns-then-i-fixes-clause-value

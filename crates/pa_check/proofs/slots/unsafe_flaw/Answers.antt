@@ -1,4 +1,4 @@
-use Rattle.std.proofs.Common.{arith, refl, sym, ◌∙◌, ◌≡◌, ◌<◌, ap, length, Some}
+use Rattle.std.proofs.Common.{arith, sym, ◌∙◌, ◌<◌, ap, length, Some}
 use Rattle.pa_check.specs.Text.{text_of}
 use Rattle.pa_check.specs.Windowed.{slot_flaw}
 use Rattle.pa_check.proofs.Lists.{unsafe_stops, unsafe_goes, unsafe_past}

@@ -1,6 +1,5 @@
 use Rattle.std.proofs.Common.{refl}
 use Rattle.pa_check.proofs.Words.{instr_of}
-use Rattle.pa_a64.specs.Decoding.{decoded}
 use Rattle.pa_check.proofs.text.instr_at.Goals as goal
 
 pub returns : goal.returns

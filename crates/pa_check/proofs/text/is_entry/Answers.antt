@@ -1,6 +1,6 @@
-use Rattle.std.proofs.Common.{refl, sym, ◌∙◌, arith}
+use Rattle.std.proofs.Common.{sym, ◌∙◌, arith}
 use Rattle.pa_check.proofs.Legal.{marks_ascend}
-use Rattle.pa_check.proofs.Words.{entry_of, no_entry}
+use Rattle.pa_check.proofs.Words.{entry_of}
 use Rattle.pa_check.proofs.text.is_entry.Goals as goal
 
 pub is_marked-requires : goal.is_marked-requires

@@ -1,4 +1,4 @@
-use Rattle.std.proofs.Common.{arith, refl, sym, ◌∙◌}
+use Rattle.std.proofs.Common.{arith, sym, ◌∙◌}
 use Rattle.pa_check.proofs.Words.{length-text}
 use Rattle.pa_check.proofs.Settled.{next_word, next_over}
 use Rattle.pa_check.proofs.text.next_in.Goals as goal

@@ -1,4 +1,4 @@
-use Rattle.std.proofs.Common.{◌∙◌, ap, sym, arith, false}
+use Rattle.std.proofs.Common.{◌≡◌, ◌∙◌, ap, sym, subst, arith, true, false}
 use Rattle.indexmap.specs.IndexMap.{keys, values}
 use Rattle.pa_ctype.specs.Types.{Of, Array}
 use Rattle.pa_ctype.specs.Nodes.{at}
@@ -52,6 +52,14 @@ returns-in-Void t c =
       known = c.put-in-Void.ensures.known;
       is = c.put-in-Void.ensures.is ∙ sym (const_is (at (keys c.args.nodes.now) c.args.number) takes);
       grown = c.put-in-Void.ensures.grown;
+      each = λ p i h. c.put-in-Void.ensures.each p i h (subst (λ u. p u ≡ true) (const_is (at (keys c.args.nodes.now) c.args.number) takes) (i.constant _ (h c.args.number c.requires.known)));
       some = omega (arith, c.put-in-Void.ensures.two);
       room = omega (arith, c.put-in-Void.ensures.room);
     }
+
+pub returns-in-Array-clause-each : goal.returns-in-Array-clause-each
+returns-in-Array-clause-each t c p i h =
+    let is =
+    ap (λ u. Of false (Array u c.in-Array.count)) c.put_constant-of.ensures.is
+    ∙ sym (array_const _ _ c.in-Array.count (layer_is (keys c.args.nodes.now) (values c.args.nodes.now) c.requires.table c.args.number _ _ c.requires.known c.node_at.ensures c.in-Array.is)) in
+    c.put.ensures.each p i (c.put_constant-of.ensures.each p i h) (subst (λ u. p u ≡ true) (sym is) (i.constant _ (h c.args.number c.requires.known)))

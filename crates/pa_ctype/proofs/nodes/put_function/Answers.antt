@@ -11,6 +11,7 @@ params-init c =
     record {
       table = c.put-number.ensures.table;
       grown = c.put-number.ensures.grown;
+      each = λ p i h. c.put-number.ensures.each p i h (i.returns _ (h c.args.result_type c.requires.result));
       known = c.put-number.ensures.known;
       within = omega arith;
       function = ap is_function c.put-number.ensures.is;
@@ -35,6 +36,9 @@ params-preserved c =
     record {
       table = c.put-number-in-params.ensures.table;
       grown = grown_trans _ _ _ c.params.invariant.grown c.put-number-in-params.ensures.grown;
+      each = λ p i h.
+          let here = c.params.invariant.each p i h in
+          c.put-number-in-params.ensures.each p i here (i.takes _ _ (here param (let l = c.params.invariant.grown.longer in omega (arith, below))) (here c.params.number c.params.invariant.known));
       known = c.put-number-in-params.ensures.known;
       within = omega arith;
       function = ap is_function is ∙ taking_function (old param) (at (keys c.params.nodes) c.params.number) c.params.invariant.function;

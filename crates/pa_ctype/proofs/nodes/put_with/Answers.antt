@@ -2,7 +2,7 @@ use Rattle.std.proofs.Common.{◌≡◌, ◌∙◌, ap, arith, sym, length}
 use Rattle.indexmap.specs.IndexMap.{keys, values}
 use Rattle.std.proofs.lemmas.Map.Entries.{length-keys_of}
 use Rattle.pa_ctype.specs.Nodes.{at}
-use Rattle.pa_ctype.proofs.NodeTable.{table_push, new_bare, new_is, grown_push, values_beside}
+use Rattle.pa_ctype.proofs.NodeTable.{table_push, new_bare, new_is, grown_push, values_beside, each_push}
 use Rattle.pa_ctype.proofs.nodes.put_with.Goals as goal
 
 pub returns-clause-table : goal.returns-clause-table
@@ -22,3 +22,6 @@ returns-clause-is c =
 
 pub returns-clause-grown : goal.returns-clause-grown
 returns-clause-grown c = grown_push (keys c.args.nodes.now) (values c.args.nodes.now) c.args.node c.requires.table c.requires.below c.requires.proper _ c.add.ensures.keys
+
+pub returns-clause-each : goal.returns-clause-each
+returns-clause-each c p inherited h e = each_push p (keys c.args.nodes.now) (keys c.add.new.nodes) c.args.node c.add.ensures.keys h e

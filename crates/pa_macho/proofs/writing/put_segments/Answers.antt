@@ -23,16 +23,16 @@ returns c =
     (command symbols_shape)
     (spelled (symbols_command (header_of c.args.sizes.now) c.args.places.now))
     c.in_ok-put_command.ensures
-    (rw c.text_segment.ensures at c.in_ok-put_fields.ensures)
-    (rw c.text_section.ensures at c.in_ok-put_fields-2.ensures)
-    (rw c.stubs_section.ensures at c.in_ok-put_fields-3.ensures)
-    (rw c.consts_section.ensures at c.in_ok-put_fields-4.ensures)
+    (rw c.fields.ensures at c.in_ok-put_fields.ensures)
+    (rw c.fields-2.ensures at c.in_ok-put_fields-2.ensures)
+    (rw c.fields-3.ensures at c.in_ok-put_fields-3.ensures)
+    (rw c.fields-4.ensures at c.in_ok-put_fields-4.ensures)
     c.in_ok-put_command-2.ensures
-    (rw c.data_segment.ensures at c.in_ok-put_fields-5.ensures)
-    (rw c.got_section.ensures at c.in_ok-put_fields-6.ensures)
-    (rw c.cells_section.ensures at c.in_ok-put_fields-7.ensures)
+    (rw c.fields-5.ensures at c.in_ok-put_fields-5.ensures)
+    (rw c.fields-6.ensures at c.in_ok-put_fields-6.ensures)
+    (rw c.fields-7.ensures at c.in_ok-put_fields-7.ensures)
     c.in_ok-put_command-3.ensures
-    (rw c.linkedit_segment.ensures at c.in_ok-put_fields-8.ensures)
+    (rw c.fields-8.ensures at c.in_ok-put_fields-8.ensures)
     c.in_ok-put_command-4.ensures
     (rw c.fixups_command.ensures at c.in_ok-put_fields-9.ensures)
     c.in_ok-put_command-5.ensures

@@ -1,8 +1,12 @@
 use Rattle.std.proofs.Common.{◌≡◌, ◌<◌, ap, sym, ◌∙◌, subst, length}
 use Rattle.std.specs.Map.{keys_of}
 use Rattle.indexmap.specs.IndexMap.{keys}
-use Rattle.pa_ctype.specs.Nodes.{AllBelow, Grown}
+use Rattle.pa_ctype.specs.Nodes.{AllBelow, Grown, Inherits}
 use Rattle.pa_ctype.proofs.Functions.{function_fits}
+use Rattle.pa_ctype.specs.Bounds.{is_formed_by}
+use Rattle.pa_ctype.specs.Layouts.{layout_by}
+use Rattle.pa_ctype.specs.Kept.{kept_layout}
+use Rattle.pa_ctype.proofs.Forms.{inherited}
 use Rattle.pa_ctype.proofs.KeptGrowth.{types_grown}
 use Rattle.pa_ctype.proofs.types.Types.function.Goals as goal
 
@@ -10,6 +14,8 @@ pub invariant_of-self-2 : goal.invariant_of-self-2
 invariant_of-self-2 c =
     types_grown _ _ _ _ c.self.inside.bodies c.self.inside.names c.self.invariant c.put_function.ensures.table
     (subst (λ es. Grown (keys_of es) (keys c.put_function.new.nodes)) c.in_ok-reserve.ensures.entries c.put_function.ensures.grown)
+    (subst (λ es. Inherits (keys_of es) (keys c.put_function.new.nodes)) c.in_ok-reserve.ensures.entries c.put_function.ensures.each
+    (is_formed_by (length c.self.inside.bodies) (layout_by (kept_layout c.self.inside.bodies))) (inherited (length c.self.inside.bodies) (kept_layout c.self.inside.bodies)) c.self.invariant.formed)
 
 pub returns-clause-is : goal.returns-clause-is
 returns-clause-is c m fits =

@@ -7,5 +7,5 @@ pub invariant_of-result : goal.invariant_of-result
 invariant_of-result g c =
     let none : length c.new-processor.result.machine.output ≡ 0 = ap (λ (m : Machine). length m.output) c.new-processor.ensures.machine in
     let kept : IsKept c.in_ok-kept.kept c.args.loaded.space =
-    record { right = c.in_ok-kept.ensures.right c.args.loaded.space; separate = c.in_ok-kept.ensures.separate } in
+    record { right = c.in_ok-kept.ensures.right c.args.loaded.space; own = c.in_ok-kept.ensures.own; apart = c.in_ok-kept.ensures.apart } in
     (omega arith, omega arith, subst (λ (m : Machine). IsKept c.in_ok-kept.kept m.memory) (sym c.new-processor.ensures.machine) kept)

@@ -1,0 +1,2 @@
+//! Numbers of C's integer types.
+#![tactic(auto)]

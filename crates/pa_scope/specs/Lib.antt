@@ -1,0 +1,4 @@
+pub mod Answers
+pub mod Numbered
+pub mod Scope
+pub mod Scopes
