@@ -49,6 +49,13 @@ signs 4 takes 5 lands 5 unsigned 1
 28 take ib 0000000170000000 0000000000000000 UNSIGNED
 ";
 
+/// The front of a report after two instructions.
+const BOUND: &[u8] = b"output 0
+
+end bound
+signs 2 takes 0 lands 0 unsigned 0
+";
+
 /// Words, the answer, and what is printed.
 type Row<'a> = (&'a str, Exit, &'a [u8]);
 
@@ -221,11 +228,10 @@ fn where_and_under_what_a_run_signs(rt: HostRuntime) -> Result<(), Fail> {
             &mut out,
         )?;
         assert_eq!(rt; answer, Exit::Done);
-        let start = b"output 0\n\nend bound\nsigns 2 takes 0 lands 0 unsigned 0\n".len();
-        assert!(rt;
-            out.written.as_slice()[start..].starts_with(line),
-            "{words}"
-        );
+        let Some(lines) = out.written.as_slice().strip_prefix(BOUND) else {
+            panic!(rt; "{words}");
+        };
+        assert!(rt; lines.starts_with(line), "{words}");
     }
     Ok(())
 }
