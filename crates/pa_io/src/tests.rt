@@ -121,7 +121,7 @@ fn all_of_a_source_is_read(rt: HostRuntime) -> Result<(), Fail> {
         }
         assert_eq!(rt; source.calls, calls);
         if wanted == Err(long) {
-            assert_eq!(rt; source.left.len() as u64, 69_999 - limit);
+            assert_eq!(rt; source.left.len() as u64, 69_999_u64.saturating_sub(limit));
         }
     }
     Ok(())

@@ -1,8 +1,8 @@
 -- A part stops the command once those before it are read.
-use Rattle.std.proofs.Common.{◌≡◌, refl, sym, subst, ◌∙◌, rules}
+use Rattle.std.proofs.Common.{refl, ◌∙◌}
 use Rattle.std.proofs.lemmas.Result.{err_from_is_err_and}
 use Rattle.pa_io.specs.Outside.{shelf_seen, source_seen}
-use Rattle.pa_task.specs.Reading.{Shelf, Outside, InputRead, InputStops, ScriptStops, TaskStops}
+use Rattle.pa_task.specs.Reading.{Outside, TaskStops}
 use Rattle.pa_task.proofs.Parts.{at_input, at_script}
 use Rattle.pa_task.proofs.task.read_task.Goals as goal
 
