@@ -16,6 +16,9 @@ cp "$copy/examples/hello.c" "$work/here/a=b c.c"
 cp "$copy/examples/hello.c" "$work/here/-x.c"
 printf 'int main(void){\n' >"$work/here/other.c"
 head -c 1048577 /dev/zero >"$work/here/long.c"
+printf '20 write 0x16ffffff8 0000000000000000\n' >"$work/here/x.script"
+head -n 4 "$copy/examples/hello.report" >"$work/short"
+printf 'output 2\nHi\nend trap auth_fail\nsigns 4 takes 4 lands 4 unsigned 0\n' >"$work/stopped"
 
 # A command rt that counts its calls of `try`, and fails once the file `fails` is there.
 cat >"$work/bin/rt" <<RT
@@ -52,8 +55,7 @@ report=$copy/examples/hello.report
 try 'no words'                   "$here" 2 'usage U1' 'type: paclab run FILE' 0 "$script"
 try '--help'                     "$here" 2 'usage U1' 'putchar(72);' 0 "$script" --help
 try 'a bare word'                "$here" 2 'usage U1' 'type: paclab run FILE' 0 "$script" x.c
-try 'run alone'                  "$here" 2 'usage U1' 'type: paclab run FILE' 0 "$script" run
-try 'an option'                  "$here" 2 'usage U1' 'type: paclab run FILE' 0 "$script" run --log
+try 'run alone'                  "$here" 2 'usage U6' 'type: paclab run FILE' 0 "$script" run
 try 'a missing file'             "$here" 4 'read fault 1' '' 0 "$script" run absent.c
 try 'a folder'                   "$here" 4 'read fault 1' '' 0 "$script" run below
 touch "$work/fails"
@@ -73,6 +75,15 @@ try 'a pipe'                     "$here" 0 "$report" 'without a proof' 2 bash -c
 try 'another form'               "$here" 3 'refused N1 0 0' 'putchar(72);' 2 "$script" run other.c
 try 'too long'                   "$here" 3 'refused M6 1 1048576' '1048576 bytes' 2 "$script" run long.c
 try 'words, once it is compiled' "$here" 2 'usage U1' 'type: paclab run FILE' 2 "$script" walk
+try 'an option without a value'  "$here" 2 'usage U3' 'options of run: --input' 2 "$script" run --log
+try 'a discriminator'            "$here" 0 'disc 59283' '' 2 "$script" disc ''
+try 'standard input'             "$here" 0 "$work/short" '' 2 bash -c "printf ns | \"$script\" run x.c --input - --log short"
+try 'a long standard input'      "$here" 3 'refused M6 65 1048576' 'has the rules' 2 bash -c "\"$script\" run x.c --input - <long.c"
+try 'a closed standard input'    "$here" 5 'input fault' '' 2 bash -c "\"$script\" run x.c --input - <&-"
+try 'a script'                   "$here" 0 "$work/stopped" '' 2 "$script" run x.c --script x.script --log short
+try 'a script of another form'   "$here" 3 'refused P1 66 1' 'has the rules' 2 "$script" run x.c --script x.c
+try 'a missing script'           "$here" 4 'read fault 66' '' 2 "$script" run x.c --script absent
+try 'a command to come'          "$here" 3 'refused N1 0 0' 'not built yet' 2 "$script" build x.c
 try 'a full disk'                "$here" 6 '' 'without a proof' 2 bash -c "\"$script\" run x.c >/dev/full"
 echo '// another comment' >>"$copy/crates/paclab/src/main.rt"
 try 'changed sources'            "$here" 0 "$report" 'about a minute' 3 "$script" run x.c

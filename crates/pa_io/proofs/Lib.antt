@@ -1,3 +1,4 @@
+mod Came
 mod Failures
 pub mod Growth
 mod Shifted

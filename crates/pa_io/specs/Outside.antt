@@ -1,7 +1,7 @@
 -- What a shelf, a source and a sink tell of their contents or keep of what they gave, and how a count of faults moves.
-use Rattle.std.specs.Prelude.{◌≡◌, ℕ, ◌+◌, ◌-◌, ◌^◌, ◌<◌, ◌≤◌, min, List, ◌++◌, length, take, ⊤, Option, Some, None, Result, Ok, Err}
-use Rattle.pa_io.specs.Calls.{next_count}
-use Rattle.pa_io.specs.declared.outside.Given.{Given}
+use Rattle.std.specs.Prelude.{◌≡◌, ℕ, ◌+◌, ◌-◌, ◌^◌, ◌<◌, ◌≤◌, min, List, [], ◌∷◌, ◌++◌, length, take, ⊤, Option, Some, None, IfSome, Result, Ok, Err}
+use Rattle.std.specs.Io.KnownBytes.{Consumes}
+use Rattle.pa_io.specs.declared.files.MemFile.{MemFile}
 use Rattle.pa_io.specs.declared.outside.ShelfFault.{ShelfFault}
 use Rattle.pa_io.specs.declared.outside.ShelfFault.TheVariants.{Failed, Long, Memory}
 
@@ -17,16 +17,11 @@ IsFile Untold bytes = ⊤
 IsFile Missing bytes = ⊥
 IsFile (Holds all) bytes = bytes ≡ all
 
--- how many files a shelf has given
-abbrev pub given_count : Option Given → ℕ
-given_count None = 0
-given_count (Some given) = given.count
-
--- where the name isn't told, the shelf keeps that it has given this file next
-abbrev pub IsGiven : Told → Option Given → Option Given → List ℕ → List ℕ → Type 0
-IsGiven Untold before now name bytes = now ≡ Some record { count = next_count (given_count before); name = name; bytes = bytes }
-IsGiven Missing before now name bytes = ⊤
-IsGiven (Holds all) before now name bytes = ⊤
+-- the files that a shelf keeps once it has given this one: it keeps those whose bytes it doesn't tell
+abbrev pub with_given : Told → List MemFile → List ℕ → List ℕ → List MemFile
+with_given Untold given name bytes = given ++ record { name = name; bytes = bytes } ∷ []
+with_given Missing given name bytes = given
+with_given (Holds all) given name bytes = given
 
 -- where the name is told, its file has more bytes than this
 abbrev pub IsLonger : Told → ℕ → Type 0
@@ -72,3 +67,44 @@ Stayed (Some before) (Some now) = now ≡ before
 -- what is told of a sink has grown by a proper prefix of these bytes, maybe by none
 abbrev pub GrewByProperPrefix : Option (List ℕ) → Option (List ℕ) → List ℕ → Type 0
 GrewByProperPrefix before now bytes = (n : ℕ) × (n < length bytes) × Grew before now (take n bytes)
+
+-- ---- what is seen of a shelf and of a source at a moment
+
+-- the files that a shelf gave and doesn't tell, its count of faults, and the name of its last fault
+pub record ShelfSeen : Type 0 where
+  pub given : List MemFile
+  pub faults : ℕ
+  pub failed : Option (List ℕ)
+
+-- what a source tells that it has left, what it keeps of what it gave, and its count of faults
+pub record SourceSeen : Type 0 where
+  pub left : Option (List ℕ)
+  pub given : Option (List ℕ)
+  pub faults : ℕ
+
+abbrev pub shelf_seen : {H : Type 0} → (H → List MemFile) → (H → ℕ) → (H → Option (List ℕ)) → H → ShelfSeen
+shelf_seen given faults failed shelf = record { given = given shelf; faults = faults shelf; failed = failed shelf }
+
+abbrev pub source_seen : {S : Type 0} → (S → Option (List ℕ)) → (S → Option (List ℕ)) → (S → ℕ) → S → SourceSeen
+source_seen left given faults source = record { left = left source; given = given source; faults = faults source }
+
+-- ---- all that a source has left
+
+-- these bytes came out of the source without a fault, the first of what it had left
+pub record Came (before now : SourceSeen) (bytes : List ℕ) : Type 0 where
+  pub left : Consumes before.left now.left bytes
+  pub given : Grew before.given now.given bytes
+  pub faults : now.faults ≡ before.faults
+
+-- they are all that it had left, where that is told, and at most so many
+pub record CameWhole (limit : ℕ) (before now : SourceSeen) (bytes : List ℕ) : Type 0 where
+  pub came : Came before now bytes
+  pub whole : IfSome before.left (λ all. bytes ≡ all)
+  pub within : length bytes ≤ limit
+
+-- not all was read: the source failed, there is more than the limit, of which one byte too many was taken, or out of memory
+abbrev pub CamePartly : (limit : ℕ) → SourceSeen → SourceSeen → ShelfFault → Type 0
+CamePartly limit before now Failed =
+    Rose before.faults now.faults × ((bytes : List ℕ) × (length bytes ≤ limit) × Grew before.given now.given bytes)
+CamePartly limit before now Long = (bytes : List ℕ) × (length bytes ≡ limit + 1) × Came before now bytes
+CamePartly limit before now Memory = (bytes : List ℕ) × (length bytes ≤ limit) × Came before now bytes

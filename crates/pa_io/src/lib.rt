@@ -15,6 +15,6 @@ mod tests;
 pub use calls::Calls;
 pub use files::{MemFile, MemFiles};
 pub use memory::{MemShelf, MemSink, MemSource};
-pub use outside::{Failed, Given, Shelf, ShelfFault, Sink, Source, write_all};
+pub use outside::{Failed, Shelf, ShelfFault, Sink, Source, read_all, write_all};
 pub use real::{DiskShelf, StdinSource, StdoutSink};
 pub use sure::{SureShelf, SureSink, SureSource};

@@ -44,12 +44,12 @@ impl MemShelf {
 }
 
 impl Shelf for MemShelf {
-    ghost use Rattle.std.specs.Prelude.{Some, None};
+    ghost use Rattle.std.specs.Prelude.{Some, []};
     ghost use Rattle.pa_io.specs.Answer.{call_answer, Gives, OnMemory, UnlessMemory};
     ghost use Rattle.pa_io.specs.Calls.{next_count, is_to_fail};
     ghost use Rattle.pa_io.specs.Files.{file_of, tells};
     ghost use Rattle.pa_io.specs.Memory.{shelf_faults, shelf_faults-lt};
-    ghost use Rattle.pa_io.specs.Outside.{IsFile, IsGiven, IsLonger, OnFailed, OnLong, UnlessFailed, Rose};
+    ghost use Rattle.pa_io.specs.Outside.{IsFile, with_given, IsLonger, OnFailed, OnLong, UnlessFailed, Rose};
 
     ghost faults = { shelf_faults };
 
@@ -57,7 +57,7 @@ impl Shelf for MemShelf {
 
     ghost told = { λ s. tells s.files };
 
-    ghost given = { λ _. None };
+    ghost given = { λ _. [] };
 
     #[tactic(auto, unfolding(crate::specs::Memory::shelf_faults, crate::specs::Files::tells))]
     fn read(&mut self, alloc: Global, name: &str, limit: u64) -> Result<Vec<u8>, ShelfFault>
@@ -72,7 +72,7 @@ impl Shelf for MemShelf {
 
         // What every shelf says.
         ensures whole { IfOk result (λ bytes. IsFile (tells self.old.files name.now) bytes.items) }
-        ensures given { IfOk result (λ bytes. IsGiven (tells self.old.files name.now) None None name.now bytes.items) }
+        ensures given { IfOk result (λ bytes. [] ≡ with_given (tells self.old.files name.now) [] name.now bytes.items) }
         ensures longer { OnLong result (IsLonger (tells self.old.files name.now) limit) }
         ensures fault { OnFailed result (Rose (shelf_faults self.old) (shelf_faults self.new)
             × (self.new.failed ≡ Some name.now)) }

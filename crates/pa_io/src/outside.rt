@@ -1,23 +1,33 @@
-ghost use Rattle.std.specs.Prelude.{◌≡◌, ◌<◌, ◌≤◌, ◌^◌, ℕ, List, [], length, take, drop, Option, Some, IfOk, OnOk, OnErr, vec_len};
+ghost use Rattle.std.specs.Prelude.{◌≡◌, ◌<◌, ◌≤◌, ◌^◌, ℕ, List, [], length, take, drop, Option, Some, IfOk, OnOk, OnErr, vec_len, IfErr};
 ghost use Rattle.std.specs.Io.KnownBytes.{Consumes, IsAtEnd};
-ghost use Rattle.pa_io.specs.Outside.{Told, IsFile, IsGiven, IsLonger, Rose, OnFailed, OnLong, UnlessFailed, Grew, Stayed, GrewByProperPrefix};
+ghost use Rattle.pa_io.specs.Outside.{Told, IsFile, with_given, IsLonger, Rose, OnFailed, OnLong, UnlessFailed, Grew, Stayed, GrewByProperPrefix, CameWhole, CamePartly, source_seen};
 
-use pa_num::{Bytes, Name};
 use std::alloc::{AllocError, Global};
 use thiserror::Error;
 
-/// Why a shelf gives no file.
+/// Why a shelf gives no file, or a source not all that it has left.
 #[derive(Clone, Copy, Debug, PartialEq, Eq, Error)]
 pub enum ShelfFault {
     /// The reading failed, or there is no file of that name.
-    #[error("the file could not be read")]
+    #[error("the bytes could not be read")]
     Failed,
-    /// The file has more bytes than were allowed.
-    #[error("the file is longer than allowed")]
+    /// There are more bytes than were allowed.
+    #[error("there are more bytes than allowed")]
     Long,
     /// Out of memory, and nothing else.
     #[error("out of memory")]
     Memory,
+}
+
+impl From<Failed> for ShelfFault {
+    ghost use Rattle.std.specs.Prelude.{◌≡◌};
+    ghost use Rattle.pa_io.specs.declared.outside.ShelfFault.TheVariants as fault;
+
+    ghost from_gives = { λ _ f. f ≡ fault.Failed };
+
+    fn from(_: Failed) -> ShelfFault {
+        ShelfFault::Failed
+    }
 }
 
 impl From<AllocError> for ShelfFault {
@@ -36,20 +46,9 @@ impl From<AllocError> for ShelfFault {
 #[error("the reading or writing failed")]
 pub struct Failed;
 
-/// A file that a shelf gave.
-#[derive(Debug, Drop)]
-pub struct Given {
-    /// How many files the shelf had given then, this one among them.
-    pub count: u64,
-    /// The name by which the shelf was asked.
-    pub name: Name,
-    /// All its bytes.
-    pub bytes: Bytes,
-}
-
 /// Files by name. The shelf counts its faults, and keeps the name of the last one; the count never falls.
 pub trait Shelf {
-    ghost use Rattle.pa_io.specs.declared.outside.Given.{Given};
+    ghost use Rattle.pa_io.specs.declared.files.MemFile.{MemFile};
 
     // The count of faults so far.
     ghost faults: { Self → ℕ };
@@ -60,8 +59,8 @@ pub trait Shelf {
     // What the shelf tells of each name.
     ghost told: { Self → List ℕ → Told };
 
-    // The file that it gave last, where it keeps that.
-    ghost given: { Self → Option Given };
+    // The files that it gave, in order, but for those whose bytes it tells.
+    ghost given: { Self → List MemFile };
 
     /// All the bytes of the file of that name, at most `limit` of them. It is `Long` where the file has more, `Failed` where
     /// there is none or it can't be read, and `Memory` where it is out of memory.
@@ -72,7 +71,7 @@ pub trait Shelf {
         ensures tells { told self.new ≡ told self.old }
 
         // A shelf that doesn't tell the name keeps the file that it gave; any other answer leaves what it keeps.
-        ensures given { IfOk result (λ bytes. IsGiven (told self.old name.now) (given self.old) (given self.new) name.now bytes.items) }
+        ensures given { IfOk result (λ bytes. given self.new ≡ with_given (told self.old name.now) (given self.old) name.now bytes.items) }
         ensures kept { OnErr result (given self.new ≡ given self.old) }
 
         // A fault is counted, and its name kept; any other answer leaves both.
@@ -147,4 +146,32 @@ pub fn write_all<K: Sink>(out: &mut K, bytes: &[u8]) -> Result<(), Failed>
         rest = &rest[taken..];
     }
     Ok(())
+}
+
+/// How many bytes are read at a time.
+pub(crate) const PIECE: usize = 65_536;
+
+/// All the bytes that the source has left, at most `limit` of them. It is `Long` where there are more, and then `limit` + 1 bytes
+/// were taken, `Failed` where the source fails, and `Memory` where it is out of memory.
+pub fn read_all<S: Source>(alloc: Global, input: &mut S, limit: u64) -> Result<Vec<u8>, ShelfFault>
+    ensures ok { IfOk result (λ bytes. CameWhole limit (source_seen S.left S.given S.faults input.old)
+        (source_seen S.left S.given S.faults input.new) bytes.items) }
+    ensures err { IfErr result (CamePartly limit (source_seen S.left S.given S.faults input.old)
+        (source_seen S.left S.given S.faults input.new)) }
+{
+    let mut bytes = Vec::new(alloc);
+    let mut piece = [0; PIECE];
+    let mut budget = limit;
+    loop {
+        let room = budget.min(PIECE as u64 - 1) as usize + 1;
+        let count = input.read(&mut piece[..room])?;
+        if count == 0 {
+            return Ok(bytes);
+        }
+        if count as u64 > budget {
+            return Err(ShelfFault::Long);
+        }
+        budget -= count as u64;
+        bytes.extend_from_slice(&piece[..count])?;
+    }
 }

@@ -1,16 +1,13 @@
 ghost use Rattle.std.specs.Prelude.{◌≡◌, ◌<◌, ◌≤◌, ◌^◌, [], length, take, drop, IfOk, IfSome, vec_len};
 ghost use Rattle.std.specs.Io.KnownBytes.{Consumes, IsAtEnd};
-ghost use Rattle.pa_io.specs.Calls.{next_count};
-ghost use Rattle.pa_io.specs.Outside.{given_count, OnLong, Grew};
+ghost use Rattle.pa_io.specs.Outside.{OnLong, Grew};
 
-use crate::outside::{Failed, Given, Shelf, ShelfFault, Sink, Source};
+use crate::files::{MemFile, MemFiles};
+use crate::outside::{Failed, PIECE, Shelf, ShelfFault, Sink, Source};
 use pa_num::{Bytes, Name};
 use std::alloc::Global;
 use std::fs;
 use std::io::{Read, Stdin, Stdout, Write};
-
-/// How many bytes are read at a time.
-const PIECE: usize = 4096;
 
 /// The files of the disk. Nothing is told of their bytes.
 #[derive(Debug, Drop)]
@@ -20,24 +17,24 @@ pub struct DiskShelf {
     pub faults: u64,
     /// The name of the last call that answered `Failed`.
     pub failed: Option<Name>,
-    /// The file that it gave last.
-    pub given: Option<Given>,
+    /// The files that it gave, in order.
+    pub given: MemFiles,
     ghost counted: { faults < 2 ^ 64 },
 }
 
 impl DiskShelf {
-    ghost use Rattle.std.specs.Prelude.{None};
+    ghost use Rattle.std.specs.Prelude.{None, []};
 
     /// The disk, without a fault and a file given so far.
     pub fn new(rt: HostRuntime) -> DiskShelf
         ensures faults { (result.faults ≡ 0) × (result.failed ≡ None) }
-        ensures given { result.given ≡ None }
+        ensures given { result.given ≡ [] }
     {
         DiskShelf {
             rt,
             faults: 0,
             failed: None,
-            given: None,
+            given: MemFiles::new(rt.alloc()),
         }
     }
 }
@@ -62,7 +59,7 @@ impl Shelf for DiskShelf {
         match answer {
             Ok(bytes) => {
                 let copy = Bytes::from_slice(alloc, &bytes)?;
-                self.given = Some(next_given(&self.given, asked, copy));
+                self.given.push(MemFile::new(asked, copy))?;
                 Ok(bytes)
             }
             Err(ShelfFault::Failed) => {
@@ -75,18 +72,6 @@ impl Shelf for DiskShelf {
     }
 
     ghost bounded = { λ s. s.counted };
-}
-
-/// This file, given after the last one.
-fn next_given(last: &Option<Given>, name: Name, bytes: Bytes) -> Given
-    ensures { result ≡ record { count = next_count (given_count last.now); name = name; bytes = bytes } }
-{
-    let before = match last {
-        Some(given) => given.count,
-        None => 0,
-    };
-    let count = before.saturating_add(1);
-    Given { count, name, bytes }
 }
 
 /// All the bytes up to the end, where they are at most `limit`. Each turn but the last takes a byte at least, so there are

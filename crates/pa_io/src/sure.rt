@@ -24,7 +24,7 @@ impl SureShelf {
 
 impl Shelf for SureShelf {
     ghost use Rattle.std.proofs.Common.{lit<};
-    ghost use Rattle.std.specs.Prelude.{None};
+    ghost use Rattle.std.specs.Prelude.{[], None};
     ghost use Rattle.pa_io.specs.Files.{tells_all};
 
     ghost faults = { λ _. 0 };
@@ -33,7 +33,7 @@ impl Shelf for SureShelf {
 
     ghost told = { λ s. tells_all s.files };
 
-    ghost given = { λ _. None };
+    ghost given = { λ _. [] };
 
     #[tactic(auto, unfolding(crate::specs::Files::tells_all))]
     fn read(&mut self, alloc: Global, name: &str, limit: u64) -> Result<Vec<u8>, ShelfFault> {

@@ -1,6 +1,6 @@
 use crate::{
     Calls, DiskShelf, Failed, MemFile, MemFiles, MemShelf, MemSink, MemSource, Shelf, ShelfFault,
-    Sink, Source, StdinSource, StdoutSink, SureShelf, SureSink, SureSource, write_all,
+    Sink, Source, StdinSource, StdoutSink, SureShelf, SureSink, SureSource, read_all, write_all,
 };
 use pa_num::{Bytes, Name};
 use std::alloc::{AllocError, Global};
@@ -99,6 +99,35 @@ fn a_sure_source_gives_all(rt: HostRuntime) -> Result<(), Fail> {
 }
 
 #[test]
+fn all_of_a_source_is_read(rt: HostRuntime) -> Result<(), Fail> {
+    let long = ShelfFault::Long;
+    let rows: [(u64, u64, Result<usize, ShelfFault>, u64); 8] = [
+        (70_000, 0, Ok(70_000), 3),
+        (70_001, 0, Ok(70_000), 3),
+        (69_999, 0, Err(long), 2),
+        (65_536, 0, Err(long), 2),
+        (0, 0, Err(long), 1),
+        (70_000, 1, Err(ShelfFault::Failed), 1),
+        (70_000, 3, Err(ShelfFault::Failed), 3),
+        (70_000, 4, Ok(70_000), 3),
+    ];
+    for (limit, failing, wanted, calls) in rows {
+        let left = Bytes::from_vec(vec![in rt.alloc(); b'x'; 70_000]?);
+        let mut source = MemSource::new(left, 0, Calls::from_slice(rt.alloc(), &[failing])?);
+        let read = read_all(rt.alloc(), &mut source, limit);
+        match (read, wanted) {
+            (Ok(bytes), Ok(count)) => assert_eq!(rt; bytes.len(), count),
+            (read, wanted) => assert_eq!(rt; read.err(), wanted.err()),
+        }
+        assert_eq!(rt; source.calls, calls);
+        if wanted == Err(long) {
+            assert_eq!(rt; source.left.len() as u64, 69_999_u64.saturating_sub(limit));
+        }
+    }
+    Ok(())
+}
+
+#[test]
 fn a_sink_fails_as_listed(rt: HostRuntime) -> Result<(), Fail> {
     let text = b"0123456789";
     for (fails, written, calls) in [(0, 10, 3), (1, 0, 1), (2, 4, 2), (3, 8, 3), (4, 10, 3)] {
@@ -135,8 +164,8 @@ fn the_disk_gives_a_file(rt: HostRuntime) -> Result<(), Fail> {
     assert_eq!(rt; shelf.faults, 2);
     let failed = shelf.failed.ok_or("a name")?;
     assert_eq!(rt; failed.as_slice(), b"/".as_slice());
-    let given = shelf.given.ok_or("a file")?;
-    assert_eq!(rt; given.count, 1);
+    assert_eq!(rt; shelf.given.len(), 1);
+    let given = shelf.given.get(0).ok_or("a file")?;
     assert_eq!(rt; given.name.as_slice(), b"one.txt".as_slice());
     assert_eq!(rt; given.bytes.as_slice(), b"one".as_slice());
     Ok(())

@@ -1,2 +1,2 @@
-mod Reports
-mod Texts
+mod Causes
+mod Stops

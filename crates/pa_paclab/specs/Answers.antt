@@ -1,228 +1,114 @@
 -- When each answer of the top call comes, and what is written then.
-use Rattle.std.specs.Prelude.{◌≡◌, ℕ, ◌<◌, ◌≤◌, List, [], length, false, ⊤, ◌⊎◌, Option, Some, None, IsSomeAnd}
-use Rattle.pa_io.specs.declared.outside.Given.{Given}
-use Rattle.pa_io.specs.Outside.{Told, Untold, Missing, Holds, IsFile, IsGiven, IsLonger, Rose, Grew, GrewByProperPrefix}
+use Rattle.std.specs.Prelude.{◌≡◌, ℕ, List, [], ◌∷◌, ◌⊎◌, Option, Result, Ok, Err}
+use Rattle.pa_io.specs.Outside.{Rose, Grew, GrewByProperPrefix}
 use Rattle.pa_pac.specs.Signing.{Code}
-use Rattle.pa_pac.specs.Log.{Log}
-use Rattle.pa_object.specs.declared.end.End.{End}
-use Rattle.pa_object.specs.Machine.{Machine}
-use Rattle.pa_object.specs.Run.{run, end_of}
-use Rattle.pa_straight.specs.declared.source.Straight.{Straight}
-use Rattle.pa_straight.specs.Source.{IsTextOf, IsNoText}
-use Rattle.pa_image.specs.declared.image.Image.{Image}
-use Rattle.pa_image.specs.Small.{IsSmall}
-use Rattle.pa_image.specs.Writing.{IsLegal}
-use Rattle.pa_image.specs.Pal.{pal}
-use Rattle.pa_load.specs.Loaded.{State, loaded, begun_in}
-use Rattle.pa_straight_image.specs.Image.{image_of}
-use Rattle.pa_straight_image.specs.Shows.{Runs}
+use Rattle.pa_sip.specs.Discriminator.{discriminator}
 use Rattle.pa_engine.specs.Report.{report_text}
-use Rattle.pa_paclab.specs.declared.exit.Exit.{Exit}
-use Rattle.pa_paclab.specs.declared.exit.Exit.TheVariants as exit
-use Rattle.pa_paclab.specs.declared.exit.UseFault.TheVariants.{U1}
-use Rattle.pa_paclab.specs.declared.exit.Refusal.{Refusal}
-use Rattle.pa_paclab.specs.declared.exit.Rule.{Rule}
-use Rattle.pa_paclab.specs.declared.exit.Rule.TheVariants.{M6, N1}
+use Rattle.pa_object.specs.declared.end.End.{End}
+use Rattle.pa_pac.specs.Log.{Log}
+use Rattle.pa_words.specs.declared.command.Command.{Command}
+use Rattle.pa_words.specs.declared.command.Command.TheVariants as command
+use Rattle.pa_words.specs.declared.command.RunOptions.{RunOptions}
+use Rattle.pa_words.specs.declared.command.UseFault.{UseFault}
+use Rattle.pa_words.specs.Usage.{spelled}
+use Rattle.pa_task.specs.declared.exit.Exit.{Exit}
+use Rattle.pa_task.specs.declared.exit.Exit.TheVariants as exit
+use Rattle.pa_task.specs.declared.task.Task.{Task}
 use Rattle.pa_paclab.specs.Lines.{line_of}
+use Rattle.pa_paclab.specs.Printed.{disc_line}
+use Rattle.pa_task.specs.Reading.{Text, Shelf, Outside, NotSource, TaskRead, TaskStops}
+use Rattle.pa_task.specs.Refusals.{not_built}
+use Rattle.pa_paclab.specs.Runs.{code_of, is_short, IsRun, RunStops}
 
--- ---- texts
+-- ---- commands
 
--- how many bytes a source may have
-abbrev pub most_bytes : ℕ
-most_bytes = 1048576
+-- this is the report of the run of a task that was read
+pub record Reports (host : Code) (told : Shelf) (file : Text) (options : RunOptions) (before now : Outside) (text : Text) : Type 0 where
+  pub task : Task
+  pub read : TaskRead told file options before now task
+  pub output : Text
+  pub end : End
+  pub log : Log
+  pub ran : IsRun (code_of host options) options task output end log
+  pub is : text ≡ report_text output end log (is_short options.log)
 
--- the text breaks this rule, and none before it
-abbrev pub Breaks : Rule → List ℕ → Type 0
-Breaks M6 text = most_bytes < length text
-Breaks N1 text = (length text ≤ most_bytes) × IsNoText text
+-- a run isn't done: a part of it isn't read, or nothing is run
+abbrev pub RunFails : Code → Shelf → Text → RunOptions → Outside → Outside → Exit → Type 0
+RunFails host told file options before now answer =
+    TaskStops told file options before now answer
+    ⊎ ((task : Task) × TaskRead told file options before now task × RunStops (code_of host options) options task answer)
 
--- the refusal by a rule, with its file and place
-abbrev pub refusal_by : Rule → Refusal
-refusal_by M6 = record { rule = M6; file = 1; place = most_bytes }
-refusal_by N1 = record { rule = N1; file = 0; place = 0 }
+-- what a command prints where it is done: `run` of one file a report, `disc` a discriminator
+abbrev pub Prints : Code → Shelf → Command → Outside → Outside → Text → Type 0
+Prints host told (command.Run (file ∷ []) options) before now text = Reports host told file options before now text
+Prints host told (command.Disc word) before now text = (text ≡ disc_line (discriminator word)) × (now ≡ before)
+Prints host told other before now text = ⊥
 
-abbrev pub IsRefused : Refusal → List ℕ → Type 0
-IsRefused refusal text = (refusal ≡ refusal_by refusal.rule) × Breaks refusal.rule text
+-- why a command isn't done; those that aren't built read nothing
+abbrev pub CommandStops : Code → Shelf → Command → Outside → Outside → Exit → Type 0
+CommandStops host told (command.Run (file ∷ []) options) before now answer = RunFails host told file options before now answer
+CommandStops host told (command.Disc word) before now answer = ⊥
+CommandStops host told other before now answer = (answer ≡ exit.Refused not_built) × (now ≡ before)
 
--- no rule is broken, and the text is that of this program
-pub record Accepts (text : List ℕ) (program : Straight) : Type 0 where
-  pub short : length text ≤ most_bytes
-  pub spells : IsTextOf text program
+-- why there is no command: the words break a rule, or out of memory
+abbrev pub WordsStop : List Text → Exit → Type 0
+WordsStop words (exit.Usage fault) = spelled words ≡ Err fault
+WordsStop words exit.Memory = Unit {0}
+WordsStop words answer = ⊥
 
-abbrev pub IsAccepted : List ℕ → Type 0
-IsAccepted text = (program : Straight) × Accepts text program
+-- the words spell a command that prints this text
+abbrev pub IsDone : List Text → Code → Shelf → Outside → Outside → Text → Type 0
+IsDone words host told before now text =
+    (c : Command) × (spelled words ≡ Ok c) × Prints host told c before now text
 
--- the shelf tells a text, and it is so
-abbrev pub KnownText : Told → (List ℕ → Type 0) → Type 0
-KnownText Untold P = ⊥
-KnownText Missing P = ⊥
-KnownText (Holds text) P = P text
+-- the words spell no command, or one that stops with this answer
+abbrev pub IsStopped : List Text → Code → Shelf → Outside → Outside → Exit → Type 0
+IsStopped words host told before now answer =
+    (WordsStop words answer × (now ≡ before))
+    ⊎ ((c : Command) × (spelled words ≡ Ok c) × CommandStops host told c before now answer)
 
--- ---- what a call saw and did
+-- unless a command reads the source: a run of one file whose input comes from there
+abbrev pub KeepsSource : Command → Type 0 → Type 0
+KeepsSource (command.Run (file ∷ []) options) P = NotSource options.input P
+KeepsSource other P = P
 
--- what a call saw of its shelf: what it tells of each name, and before the call and now the file that it gave last, its count
--- of faults and its failed name
-pub record Reading : Type 0 where
-  pub told : List ℕ → Told
-  pub given_before : Option Given
-  pub given_now : Option Given
-  pub faults_before : ℕ
-  pub faults_now : ℕ
-  pub failed_before : Option (List ℕ)
-  pub failed_now : Option (List ℕ)
+-- unless the words spell such a command
+abbrev pub UnlessFromSource : Result Command UseFault → Type 0 → Type 0
+UnlessFromSource (Ok c) P = KeepsSource c P
+UnlessFromSource (Err fault) P = P
 
--- a call: the file that the words ask to run, the PAC function, what was seen of the shelf, and before the call and now what the
--- sink tells and its count of faults
+-- ---- a call
+
+-- the words, the host's PAC function, what the shelf tells, and what is seen of the shelf, the source and the sink before and now
 pub record Call : Type 0 where
-  pub file : Option (List ℕ)
-  pub code : Code
-  pub reading : Reading
-  pub written_before : Option (List ℕ)
-  pub written_now : Option (List ℕ)
+  pub words : List Text
+  pub host : Code
+  pub told : Shelf
+  pub before : Outside
+  pub now : Outside
+  pub written_before : Option Text
+  pub written_now : Option Text
   pub write_faults_before : ℕ
   pub write_faults_now : ℕ
 
--- this text was read under the name: it is the file's where the shelf tells that, and else what the shelf gave
-abbrev pub WasRead : Reading → List ℕ → List ℕ → Type 0
-WasRead reading name text =
-    IsFile (reading.told name) text × IsGiven (reading.told name) reading.given_before reading.given_now name text
+-- the whole text is written, and no write failed
+abbrev pub Writes : Call → Text → Type 0
+Writes call text = Grew call.written_before call.written_now text × (call.write_faults_now ≡ call.write_faults_before)
 
--- a text that was read is so
-abbrev pub ReadText : Reading → List ℕ → (List ℕ → Type 0) → Type 0
-ReadText reading name P = (text : List ℕ) × WasRead reading name text × P text
+-- a write failed, and a proper prefix of the text is written
+abbrev pub WritesPart : Call → Text → Type 0
+WritesPart call text =
+    GrewByProperPrefix call.written_before call.written_now text × Rose call.write_faults_before call.write_faults_now
 
--- no text was read
-abbrev pub NothingRead : Reading → Type 0
-NothingRead reading = reading.given_now ≡ reading.given_before
+-- the command is done, and this is written of its text
+abbrev pub DoneWriting : Call → (Call → Text → Type 0) → Type 0
+DoneWriting call Written =
+    (text : Text) × IsDone call.words call.host call.told call.before call.now text × Written call text
 
--- the shelf's faults are as before the call
-abbrev pub NoReadFault : Reading → Type 0
-NoReadFault reading = (reading.faults_now ≡ reading.faults_before) × (reading.failed_now ≡ reading.failed_before)
-
--- ---- causes
-
--- the reading of this file failed
-pub record Failed (reading : Reading) (name : List ℕ) : Type 0 where
-  pub rose : Rose reading.faults_before reading.faults_now
-  pub failed : reading.failed_now ≡ Some name
-  pub nothing : NothingRead reading
-
--- the file of this name breaks the rule: it is too long to be read, or it was read
-abbrev pub FileBreaks : Rule → Reading → List ℕ → Type 0
-FileBreaks M6 reading name = IsLonger (reading.told name) most_bytes × NothingRead reading
-FileBreaks N1 reading name = ReadText reading name (Breaks N1)
-
--- each answer of a command that runs this file, or of words that are no command, and why it comes
-abbrev pub Cause : Option (List ℕ) → Reading → Exit → Type 0
-Cause file reading exit.Done = IsSomeAnd file (λ name. ReadText reading name IsAccepted)
-Cause file reading (exit.Usage fault) = (fault ≡ U1) × (file ≡ None) × NothingRead reading
-Cause file reading (exit.Refused refusal) =
-    (refusal ≡ refusal_by refusal.rule) × IsSomeAnd file (FileBreaks refusal.rule reading)
-Cause file reading (exit.ReadFault number) = (number ≡ 1) × IsSomeAnd file (Failed reading)
-Cause file reading exit.InputFault = ⊥
-Cause file reading exit.WriteFault = IsSomeAnd file (λ name. ReadText reading name IsAccepted)
-Cause file reading exit.Memory = ⊤
-
--- this answer, but for out of memory
-abbrev pub IsUnlessMemory : Exit → Exit → Type 0
-IsUnlessMemory answer expected = (answer ≡ expected) ⊎ (answer ≡ exit.Memory)
-
--- ---- what a command that is done prints
-
--- the machine after the run of a loaded state without a script and without input, for a million instructions
-abbrev pub run_of : Code → State → Machine
-run_of code state = run code [] 1000000 (begun_in state [])
-
--- the full report of a run
-abbrev pub report_of : Machine → List ℕ
-report_of m = report_text m.output (end_of m) m.log false
-
--- A text's report under a PAC function: the report of the run of the image of the text's program, loaded without a
--- slide. The image is legal and small, and each run of it, under every function and every slide, prints and returns what the program
--- says, takes only what was signed, and enters the functions that the program calls.
-pub record IsReport (code : Code) (text report : List ℕ) : Type 0 where
-  pub program : Straight
-  pub accepts : Accepts text program
-  pub image : Image
-  pub image_is : image ≡ image_of program
-  pub legal : IsLegal image
-  pub small : IsSmall image
-  pub runs : Runs image program
-  pub is : report ≡ report_of (run_of code (loaded code image pal 0))
-
--- the text that was read has a report, and this is written of it
-abbrev pub Prints : Call → (Option (List ℕ) → Option (List ℕ) → List ℕ → Type 0) → Type 0
-Prints call Written = IsSomeAnd call.file (λ name. ReadText call.reading name (λ text.
-    (report : List ℕ) × IsReport call.code text report × Written call.written_before call.written_now report))
-
--- the line of an answer is written, or a proper prefix of it
-abbrev pub PrintsLine : Call → Exit → Type 0
-PrintsLine call answer =
-    Grew call.written_before call.written_now (line_of answer) ⊎ GrewByProperPrefix call.written_before call.written_now (line_of answer)
-
--- what is written with each answer
-abbrev pub Output : Call → Exit → Type 0
-Output call exit.Done = Prints call Grew
-Output call exit.WriteFault = Prints call GrewByProperPrefix
-Output call answer = PrintsLine call answer
-
-abbrev pub WriteFaultRose : Call → Type 0
-WriteFaultRose call = Rose call.write_faults_before call.write_faults_now
-
--- ---- one answer
-
-abbrev pub OnDone : Exit → Type 0 → Type 0
-OnDone exit.Done P = P
-OnDone answer P = ⊤
-
-abbrev pub OnWriteFault : Exit → Type 0 → Type 0
-OnWriteFault exit.WriteFault P = P
-OnWriteFault answer P = ⊤
-
-abbrev pub UnlessReadFault : Exit → Type 0 → Type 0
-UnlessReadFault (exit.ReadFault number) P = ⊤
-UnlessReadFault answer P = P
-
--- neither done nor kept from it by the sink
-abbrev pub OnStop : Exit → Type 0 → Type 0
-OnStop exit.Done P = ⊤
-OnStop exit.WriteFault P = ⊤
-OnStop answer P = P
-
--- an answer that comes before anything is run
-abbrev pub IsStop : Exit → Type 0
-IsStop exit.Done = ⊥
-IsStop exit.WriteFault = ⊥
-IsStop answer = ⊤
-
--- ---- an answer as a whole
-
-pub record IsAnswer (call : Call) (answer : Exit) : Type 0 where
-  pub cause : Cause call.file call.reading answer
-  pub output : Output call answer
-  -- with WriteFault a write failed, with Done none, and a line is cut off only where one failed
-  pub write_fault : OnWriteFault answer (WriteFaultRose call)
-  pub no_write_fault : OnDone answer (call.write_faults_now ≡ call.write_faults_before)
-  pub whole_line : OnStop answer (¬ WriteFaultRose call → Grew call.written_before call.written_now (line_of answer))
-  pub kept : call.write_faults_before ≤ call.write_faults_now
-  -- the shelf's faults stay where no reading failed
-  pub no_read_fault : UnlessReadFault answer (NoReadFault call.reading)
-
--- ---- parts of the call
-
--- out of memory, or that the text is of a form that isn't built
-abbrev pub IsRefusalOf : List ℕ → Exit → Type 0
-IsRefusalOf text exit.Memory = ⊤
-IsRefusalOf text (exit.Refused refusal) = (refusal ≡ refusal_by N1) × Breaks N1 text
-IsRefusalOf text answer = ⊥
-
--- this is the output, the end and the log of the run of the program's image
-pub record IsRunOf (code : Code) (program : Straight) (output : List ℕ) (end : End) (log : Log) : Type 0 where
-  pub image : Image
-  pub image_is : image ≡ image_of program
-  pub legal : IsLegal image
-  pub small : IsSmall image
-  pub runs : Runs image program
-  pub output_is : output ≡ (run_of code (loaded code image pal 0)).output
-  pub end_is : end ≡ end_of (run_of code (loaded code image pal 0))
-  pub log_is : log ≡ (run_of code (loaded code image pal 0)).log
+-- each answer: why it comes, and what is written then
+abbrev pub IsAnswer : Call → Exit → Type 0
+IsAnswer call exit.Done = DoneWriting call Writes
+IsAnswer call exit.WriteFault = DoneWriting call WritesPart
+IsAnswer call answer =
+    IsStopped call.words call.host call.told call.before call.now answer
+    × (Writes call (line_of answer) ⊎ WritesPart call (line_of answer))

@@ -1,20 +1,11 @@
--- The answers of the top call.
+-- The status of an answer to a call.
 use Rattle.std.specs.Prelude.{◌≡◌, ℕ}
 use Rattle.std.specs.declared.io.ErrorKind.{ErrorKind}
 use Rattle.std.specs.declared.io.ErrorKind.TheVariants.{OutOfMemory}
 use Rattle.pa_paclab.specs.Answers.{Call, IsAnswer}
-use Rattle.pa_paclab.specs.declared.exit.Exit.{Exit}
-use Rattle.pa_paclab.specs.declared.exit.Exit.TheVariants.{Done, Usage, Refused, ReadFault, InputFault, WriteFault, Memory}
-
--- the status with which the program ends
-abbrev pub status_of : Exit → ℕ
-status_of Done = 0
-status_of (Usage fault) = 2
-status_of (Refused refusal) = 3
-status_of (ReadFault file) = 4
-status_of InputFault = 5
-status_of WriteFault = 6
-status_of Memory = 7
+use Rattle.pa_task.specs.declared.exit.Exit.{Exit}
+use Rattle.pa_task.specs.declared.exit.Exit.TheVariants.{Memory}
+use Rattle.pa_task.specs.Status.{status_of}
 
 -- the status of an answer to a call
 abbrev pub IsStatusOf : Call → ℕ → Type 0

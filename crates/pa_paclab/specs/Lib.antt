@@ -2,4 +2,5 @@ pub mod Answers
 pub mod Exit
 pub mod Host
 pub mod Lines
-pub mod Words
+pub mod Printed
+pub mod Runs

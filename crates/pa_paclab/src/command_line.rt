@@ -1,14 +1,16 @@
-ghost use Rattle.std.specs.Prelude.{◌≡◌, map, string_bytes, None, IfOk, IfErr};
+ghost use Rattle.std.specs.Prelude.{◌≡◌, map, string_bytes, IfOk, IfErr};
 ghost use Rattle.std.specs.IoError.{error_kind};
-ghost use Rattle.pa_paclab.specs.Answers.{Reading, Call};
-ghost use Rattle.pa_paclab.specs.Exit.{status_of, no_words_status, IsStatusOf};
+ghost use Rattle.pa_io.specs.Outside.{shelf_seen, source_seen};
+ghost use Rattle.pa_words.specs.Usage.{spelled};
+ghost use Rattle.pa_paclab.specs.Answers.{Call, UnlessFromSource};
+ghost use Rattle.pa_paclab.specs.Exit.{no_words_status, IsStatusOf};
 ghost use Rattle.pa_paclab.specs.Host.{host_code};
-ghost use Rattle.pa_paclab.specs.Words.{file_to_run};
+ghost use Rattle.pa_task.specs.Reading.{Outside};
 
-use crate::exit::Exit;
 use crate::top::paclab;
 use pa_io::{Shelf, Sink, Source};
 use pa_pac::SipPac;
+use pa_task::Exit;
 use std::alloc::Global;
 use std::io;
 
@@ -43,16 +45,16 @@ pub fn command<H: Shelf, S: Source, K: Sink>(
 ) -> u8
     // The status is that of an answer to the words.
     ensures answer { IfOk words.now (λ words. IsStatusOf record {
-      file = file_to_run (map string_bytes words.items);
-      code = host_code;
-      reading = record {
-        told = H.told shelf.old;
-        given_before = H.given shelf.old;
-        given_now = H.given shelf.new;
-        faults_before = H.faults shelf.old;
-        faults_now = H.faults shelf.new;
-        failed_before = H.failed shelf.old;
-        failed_now = H.failed shelf.new;
+      words = map string_bytes words.items;
+      host = host_code;
+      told = H.told shelf.old;
+      before = record {
+        shelf = shelf_seen H.given H.faults H.failed shelf.old;
+        source = source_seen S.left S.given S.faults input.old;
+      };
+      now = record {
+        shelf = shelf_seen H.given H.faults H.failed shelf.new;
+        source = source_seen S.left S.given S.faults input.new;
       };
       written_before = K.written out.old;
       written_now = K.written out.new;
@@ -60,11 +62,12 @@ pub fn command<H: Shelf, S: Source, K: Sink>(
       write_faults_now = K.faults out.new;
     } result) }
     ensures no_words { IfErr words.now (λ error.
-        (result ≡ no_words_status (error_kind error)) × (shelf.new ≡ shelf.old) × (out.new ≡ out.old)) }
+        (result ≡ no_words_status (error_kind error)) × (shelf.new ≡ shelf.old) × (input.new ≡ input.old) × (out.new ≡ out.old)) }
 
-    // What stays: the source, and what the shelf tells.
-    ensures source { input.new ≡ input.old }
+    // What stays: what the shelf tells, and the source unless the words ask for it.
     ensures tells { H.told shelf.new ≡ H.told shelf.old }
+    ensures source { IfOk words.now (λ words.
+        UnlessFromSource (spelled (map string_bytes words.items)) (input.new ≡ input.old)) }
 {
     match words {
         Ok(words) => paclab(alloc, words, shelf, input, out, &HOST).status(),

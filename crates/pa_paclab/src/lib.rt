@@ -2,14 +2,11 @@
 #![tactic(auto)]
 
 mod command_line;
-mod exit;
 mod lines;
+mod printed;
 mod running;
-#[cfg(test)]
-mod tests;
 mod top;
-mod words;
 
 pub use command_line::command;
-pub use exit::{Exit, Refusal, Rule, UseFault};
-pub use top::{MOST_BYTES, paclab};
+pub use pa_task::{Exit, MOST_BYTES, Refusal, Rule, ScriptRule, UseFault};
+pub use top::paclab;

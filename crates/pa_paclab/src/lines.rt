@@ -1,10 +1,12 @@
 ghost use Rattle.std.specs.Prelude.{◌≡◌, ◌≤◌, ◌++◌, length, OnOk, OnErr};
 ghost use Rattle.pa_io.specs.Outside.{Rose, Grew, GrewByProperPrefix};
-ghost use Rattle.pa_paclab.specs.Lines.{use_fault_text, rule_text, line_of};
+ghost use Rattle.pa_paclab.specs.Lines.{use_fault_text, script_rule_text, rule_text, line_of};
 
-use crate::exit::{Exit, Rule, UseFault};
 use pa_engine::Page;
 use pa_io::{Failed, Sink};
+use pa_script::ScriptRule;
+use pa_task::{Exit, Rule};
+use pa_words::UseFault;
 
 fn use_fault_word(fault: UseFault) -> &'static [u8]
     ensures word { result.now ≡ use_fault_text fault }
@@ -20,11 +22,24 @@ fn use_fault_word(fault: UseFault) -> &'static [u8]
     }
 }
 
+fn script_rule_word(rule: ScriptRule) -> &'static [u8]
+    ensures word { result.now ≡ script_rule_text rule }
+    ensures short { length result.now ≡ 2 }
+{
+    match rule {
+        ScriptRule::P1 => b"P1",
+        ScriptRule::P2 => b"P2",
+        ScriptRule::P3 => b"P3",
+        ScriptRule::P4 => b"P4",
+    }
+}
+
 fn rule_word(rule: Rule) -> &'static [u8]
     ensures word { result.now ≡ rule_text rule }
     ensures short { length result.now ≡ 2 }
 {
     match rule {
+        Rule::Script(rule) => script_rule_word(rule),
         Rule::M6 => b"M6",
         Rule::N1 => b"N1",
     }

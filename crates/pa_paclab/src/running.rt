@@ -1,27 +1,26 @@
-ghost use Rattle.std.specs.Prelude.{◌≡◌, IfOk};
+//! From a task to what its run leaves.
+
+ghost use Rattle.std.specs.Prelude.{◌≡◌, IfOk, IfErr};
 ghost use Rattle.pa_image.specs.declared.image.Image as declared;
 ghost use Rattle.pa_image.specs.Bytes.{IsImage};
 ghost use Rattle.pa_image.specs.Pal.{pal};
 ghost use Rattle.pa_load.specs.Loaded.{IsLoaded, state_of};
 ghost use Rattle.pa_straight.specs.Source.{IsSource};
 ghost use Rattle.pa_straight_image.specs.Image.{image_of};
-ghost use Rattle.pa_paclab.specs.Answers.{IsRunOf};
+ghost use Rattle.pa_paclab.specs.Runs.{code_of, IsRun, RunStops};
 
 use pa_engine::Ran;
 use pa_image::{Image, read_image, write_image};
 use pa_load::Loaded;
 use pa_machine::Machine;
 use pa_num::{Fault, Memory};
-use pa_pac::Pac;
+use pa_pac::{FoldPac, Pac, SipPac, ZeroPac};
+use pa_script::{ScriptRule, fits};
 use pa_straight::Straight;
 use pa_straight_image::{load_program, program_image};
+use pa_task::{Exit, Refusal, Task};
+use pa_words::{PacName, RunOptions};
 use std::alloc::Global;
-
-/// How many instructions a run makes at most.
-pub const STEPS: u32 = 1_000_000;
-
-/// How many pages an image is moved from where its file says.
-const SLIDE: u16 = 0;
 
 /// The bytes of the image of a program.
 fn compile(alloc: Global, program: &Straight) -> Result<Vec<u8>, Memory>
@@ -45,23 +44,59 @@ fn read_back(alloc: Global, bytes: &[u8]) -> Result<Image, Memory>
 }
 
 /// A program's image, written, read again, and loaded beside the runtime image.
-fn load_written<P: Pac>(alloc: Global, program: &Straight, host: &P) -> Result<Loaded, Memory>
+fn load_written<P: Pac>(
+    alloc: Global,
+    program: &Straight,
+    slide: u16,
+    p: &P,
+) -> Result<Loaded, Memory>
     requires { IsSource program.now }
-    ensures { IfOk result (λ loaded. IsLoaded (P.code host.now) (image_of program.now) pal 0 (state_of loaded)) }
+    ensures { IfOk result (λ loaded. IsLoaded (P.code p.now) (image_of program.now) pal slide (state_of loaded)) }
 {
     let bytes = compile(alloc, program)?;
     let image = read_back(alloc, &bytes)?;
-    load_program(alloc, &image, SLIDE, host)
+    load_program(alloc, &image, slide, p)
 }
 
-/// What the run of a program's image leaves, of which the report is printed.
-pub fn run_program<P: Pac>(alloc: Global, program: &Straight, host: &P) -> Result<Ran, Memory>
-    requires { IsSource program.now }
-    ensures { IfOk result (λ ran. IsRunOf (P.code host.now) program.now ran.output ran.end ran.log.entries) }
+/// What the run of a task leaves under a PAC function, or why nothing is run.
+fn run_under<P: Pac>(alloc: Global, task: &Task, options: &RunOptions, p: &P) -> Result<Ran, Exit>
+    requires { IsSource task.now.program }
+    ensures ok { IfOk result (λ ran. IsRun (P.code p.now) options.now task.now ran.output ran.end ran.log.entries) }
+    ensures err { IfErr result (RunStops (P.code p.now) options.now task.now) }
 {
-    let loaded = load_written(alloc, program, host)?;
-    let mut machine = Machine::new(alloc, loaded, &[], host)?;
-    let end = machine.run(&[], STEPS)?;
+    let loaded = load_written(alloc, &task.program, options.slide, p)?;
+    if let Some(line) = fits(&task.script, &loaded.space) {
+        let refusal = Refusal::bad_line(ScriptRule::P4, u64::from(line));
+        return Err(Exit::Refused(refusal));
+    }
+    let mut machine = Machine::new(alloc, loaded, task.input.as_slice(), p)?;
+    let end = machine.run(task.script.as_slice(), options.steps)?;
     let (output, log) = machine.into_parts();
     Ok(Ran { output, end, log })
+}
+
+/// What the run of a task leaves under the PAC function that the options name, or why nothing is run.
+pub fn run_task<P: Pac>(
+    alloc: Global,
+    task: &Task,
+    options: &RunOptions,
+    host: &P,
+) -> Result<Ran, Exit>
+    requires { IsSource task.now.program }
+    ensures ok { IfOk result (λ ran.
+        IsRun (code_of (P.code host.now) options.now) options.now task.now ran.output ran.end ran.log.entries) }
+    ensures err { IfErr result (RunStops (code_of (P.code host.now) options.now) options.now task.now) }
+{
+    match options.pac {
+        PacName::Host => run_under(alloc, task, options, host),
+        PacName::Sip => {
+            let sip = SipPac {
+                k0: options.seed,
+                k1: 0,
+            };
+            run_under(alloc, task, options, &sip)
+        }
+        PacName::Zero => run_under(alloc, task, options, &ZeroPac),
+        PacName::Fold => run_under(alloc, task, options, &FoldPac),
+    }
 }

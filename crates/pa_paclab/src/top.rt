@@ -1,102 +1,133 @@
-ghost use Rattle.std.specs.Prelude.{◌≡◌, ◌≢◌, ◌≤◌, ◌<◌, ◌⊎◌, length, map, false, string_bytes, vec_len, Option, Some, None, IfOk, IfErr, MatchResult, IsSomeAnd};
-ghost use Rattle.pa_io.specs.Outside.{Rose};
-ghost use Rattle.pa_engine.specs.Report.{report_text};
-ghost use Rattle.pa_paclab.specs.Answers.{most_bytes, IsRefused, Accepts, IsAccepted, KnownText, Reading, Call, WasRead, ReadText, NoReadFault, Cause, IsAnswer, IsUnlessMemory, IsReport, UnlessReadFault, IsStop, IsRefusalOf};
-ghost use Rattle.pa_paclab.specs.Words.{file_to_run};
+//! The top call, from words to what is printed.
 
-use crate::exit::{Exit, Refusal, Rule, UseFault};
+ghost use Rattle.std.specs.Prelude.{◌≡◌, map, string_bytes, IfOk, IfErr};
+ghost use Rattle.pa_io.specs.Outside.{shelf_seen, source_seen};
+ghost use Rattle.pa_paclab.specs.Printed.{text_of};
+ghost use Rattle.pa_task.specs.Reading.{Outside, NotSource};
+ghost use Rattle.pa_paclab.specs.Answers.{Reports, RunFails, Prints, CommandStops, KeepsSource, IsDone, IsStopped, UnlessFromSource, Call, IsAnswer};
+ghost use Rattle.pa_words.specs.Usage.{spelled};
+
 use crate::lines::write_line;
-use crate::running::run_program;
-use crate::words::file_to_run;
-use pa_engine::{Ran, report};
-use pa_io::{Failed, Shelf, ShelfFault, Sink, Source};
-use pa_num::Memory;
+use crate::printed::{Printed, write_printed};
+use crate::running::run_task;
+use pa_io::{Failed, Shelf, Sink, Source};
 use pa_pac::Pac;
-use pa_straight::Straight;
+use pa_sip::string_disc;
+use pa_task::{Exit, Refusal, read_task};
+use pa_words::{Command, RunOptions};
 use std::alloc::Global;
 
-/// How many bytes a source may have.
-pub const MOST_BYTES: u64 = 1_048_576;
-
-/// The bytes of the first file.
-fn read_text<H: Shelf>(alloc: Global, name: &str, shelf: &mut H) -> Result<Vec<u8>, Exit>
-    ensures reading { let reading : Reading = record {
-      told = H.told shelf.old;
-      given_before = H.given shelf.old;
-      given_now = H.given shelf.new;
-      faults_before = H.faults shelf.old;
-      faults_now = H.faults shelf.new;
-      failed_before = H.failed shelf.old;
-      failed_now = H.failed shelf.new;
-    } in
-        MatchResult result (λ text. WasRead reading name.now text.items × NoReadFault reading)
-        (λ exit. IsStop exit × Cause (Some name.now) reading exit × UnlessReadFault exit (NoReadFault reading)) }
-    ensures short { IfOk result (λ text. vec_len text ≤ most_bytes) }
+/// Runs a file, or answers why it isn't run.
+#[tactic(auto, using(crate::proofs::Causes::unread, crate::proofs::Causes::not_run))]
+fn run_file<H: Shelf, S: Source, P: Pac>(
+    alloc: Global,
+    file: &str,
+    options: &RunOptions,
+    shelf: &mut H,
+    source: &mut S,
+    host: &P,
+) -> Result<Printed, Exit>
+    ensures ok { let before : Outside = record {
+      shelf = shelf_seen H.given H.faults H.failed shelf.old;
+      source = source_seen S.left S.given S.faults source.old;
+    } in let now : Outside = record {
+      shelf = shelf_seen H.given H.faults H.failed shelf.new;
+      source = source_seen S.left S.given S.faults source.new;
+    } in IfOk result (λ printed.
+        Reports (P.code host.now) (H.told shelf.old) file.now options.now before now (text_of printed)) }
+    ensures err { let before : Outside = record {
+      shelf = shelf_seen H.given H.faults H.failed shelf.old;
+      source = source_seen S.left S.given S.faults source.old;
+    } in let now : Outside = record {
+      shelf = shelf_seen H.given H.faults H.failed shelf.new;
+      source = source_seen S.left S.given S.faults source.new;
+    } in IfErr result (RunFails (P.code host.now) (H.told shelf.old) file.now options.now before now) }
     ensures tells { H.told shelf.new ≡ H.told shelf.old }
+    ensures stays { NotSource options.now.input (source.new ≡ source.old) }
 {
-    match shelf.read(alloc, name, MOST_BYTES) {
-        Ok(text) => Ok(text),
-        Err(ShelfFault::Failed) => Err(Exit::ReadFault(1)),
-        Err(ShelfFault::Long) => Err(Exit::Refused(Refusal {
-            rule: Rule::M6,
-            file: 1,
-            place: MOST_BYTES,
-        })),
-        Err(ShelfFault::Memory) => Err(Exit::Memory),
+    let task = read_task(alloc, file, options, shelf, source)?;
+    let ran = run_task(alloc, &task, options, host)?;
+    Ok(Printed::Report {
+        ran,
+        form: options.log,
+    })
+}
+
+/// Does what a command asks for, up to the printing.
+fn do_command<H: Shelf, S: Source, P: Pac>(
+    alloc: Global,
+    command: &Command,
+    shelf: &mut H,
+    source: &mut S,
+    host: &P,
+) -> Result<Printed, Exit>
+    ensures ok { let before : Outside = record {
+      shelf = shelf_seen H.given H.faults H.failed shelf.old;
+      source = source_seen S.left S.given S.faults source.old;
+    } in let now : Outside = record {
+      shelf = shelf_seen H.given H.faults H.failed shelf.new;
+      source = source_seen S.left S.given S.faults source.new;
+    } in IfOk result (λ printed. Prints (P.code host.now) (H.told shelf.old) command.now before now (text_of printed)) }
+    ensures err { let before : Outside = record {
+      shelf = shelf_seen H.given H.faults H.failed shelf.old;
+      source = source_seen S.left S.given S.faults source.old;
+    } in let now : Outside = record {
+      shelf = shelf_seen H.given H.faults H.failed shelf.new;
+      source = source_seen S.left S.given S.faults source.new;
+    } in IfErr result (CommandStops (P.code host.now) (H.told shelf.old) command.now before now) }
+    ensures tells { H.told shelf.new ≡ H.told shelf.old }
+    ensures stays { KeepsSource command.now (source.new ≡ source.old) }
+{
+    match command {
+        Command::Run { files, options } => match files.as_slice() {
+            [file] => run_file(alloc, file.as_str(), options, shelf, source, host),
+            _ => Err(Exit::Refused(Refusal::not_built())),
+        },
+        Command::Disc { text } => Ok(Printed::Disc(string_disc(text.as_str().as_bytes()))),
+        _ => Err(Exit::Refused(Refusal::not_built())),
     }
 }
 
-/// The program of a text.
-fn parse(alloc: Global, text: &[u8]) -> Result<Straight, Exit>
-    requires { length text.now ≤ most_bytes }
-    ensures ok { IfOk result (λ program. Accepts text.now program) }
-    ensures err { IfErr result (IsRefusalOf text.now) }
-{
-    match pa_straight::read(alloc, text) {
-        Ok(Some(program)) => Ok(program),
-        Ok(None) => Err(Exit::Refused(Refusal {
-            rule: Rule::N1,
-            file: 0,
-            place: 0,
-        })),
-        Err(Memory) => Err(Exit::Memory),
-    }
-}
-
-/// Runs the file that the words name, or answers why nothing was run.
-fn answer<H: Shelf, P: Pac>(
+/// Does what the words ask for, up to the printing.
+#[tactic(auto, using(crate::proofs::Causes::no_command, crate::proofs::Causes::command_stops, crate::proofs::Causes::command_done, crate::proofs::Causes::kept_without_command, crate::proofs::Causes::kept_by_command))]
+fn answer<H: Shelf, S: Source, P: Pac>(
     alloc: Global,
     words: &[String],
     shelf: &mut H,
+    source: &mut S,
     host: &P,
-) -> Result<Ran, Exit>
-    ensures reading { let reading : Reading = record {
-      told = H.told shelf.old;
-      given_before = H.given shelf.old;
-      given_now = H.given shelf.new;
-      faults_before = H.faults shelf.old;
-      faults_now = H.faults shelf.new;
-      failed_before = H.failed shelf.old;
-      failed_now = H.failed shelf.new;
-    } in
-        MatchResult result (λ ran. NoReadFault reading × IsSomeAnd (file_to_run (map string_bytes words.now)) (λ name.
-        ReadText reading name (λ text. IsReport (P.code host.now) text (report_text ran.output ran.end ran.log.entries false))))
-        (λ exit. IsStop exit × Cause (file_to_run (map string_bytes words.now)) reading exit
-        × UnlessReadFault exit (NoReadFault reading)) }
-    ensures usage { file_to_run (map string_bytes words.now) ≡ None → (result ≡ Err (Exit.Usage UseFault.U1)) × (shelf.new ≡ shelf.old) }
+) -> Result<Printed, Exit>
+    ensures ok { let before : Outside = record {
+      shelf = shelf_seen H.given H.faults H.failed shelf.old;
+      source = source_seen S.left S.given S.faults source.old;
+    } in let now : Outside = record {
+      shelf = shelf_seen H.given H.faults H.failed shelf.new;
+      source = source_seen S.left S.given S.faults source.new;
+    } in IfOk result (λ printed.
+        IsDone (map string_bytes words.now) (P.code host.now) (H.told shelf.old) before now (text_of printed)) }
+    ensures err { let before : Outside = record {
+      shelf = shelf_seen H.given H.faults H.failed shelf.old;
+      source = source_seen S.left S.given S.faults source.old;
+    } in let now : Outside = record {
+      shelf = shelf_seen H.given H.faults H.failed shelf.new;
+      source = source_seen S.left S.given S.faults source.new;
+    } in IfErr result (IsStopped (map string_bytes words.now) (P.code host.now) (H.told shelf.old) before now) }
     ensures tells { H.told shelf.new ≡ H.told shelf.old }
+    ensures stays { UnlessFromSource (spelled (map string_bytes words.now)) (source.new ≡ source.old) }
 {
-    let name = file_to_run(words)?;
-    let text = read_text(alloc, name, shelf)?;
-    let program = parse(alloc, &text)?;
-    let ran = run_program(alloc, &program, host)?;
-    Ok(ran)
+    let command = pa_words::words(alloc, words)?;
+    let printed = do_command(alloc, &command, shelf, source, host)?;
+    Ok(printed)
 }
 
-/// Does what the words ask for, with the files of a shelf, the bytes of a source and the host's PAC
-/// function, and writes what is printed: the whole report where the answer is `Done`, a proper prefix of it where it is
-/// `WriteFault`, and otherwise one line that tells the answer, or a proper prefix of that line where the sink fails. `run FILE` compiles
-/// the file to an image, loads it, runs it for at most a million instructions, and prints the report.
+/// Does what the words ask for, with the files of a shelf, the bytes of a source and the host's PAC function, and writes
+/// what is printed: the whole text where the answer is `Done`, a proper prefix of it where it is `WriteFault`, and otherwise
+/// one line that tells the answer, or a proper prefix of that line where the sink fails.
+///
+/// `run FILE` compiles the file to an image, loads it, runs it and prints the report; its options say where its input comes
+/// from, which script writes to its memory, how many instructions run, where and under which PAC function it is loaded, and
+/// which lines of the log are printed. `disc TEXT` prints the string discriminator of a text. The other commands, and `run`
+/// of several files, are refused by the rule N1 for now.
 pub fn paclab<H: Shelf, S: Source, K: Sink, P: Pac>(
     alloc: Global,
     words: &[String],
@@ -105,18 +136,18 @@ pub fn paclab<H: Shelf, S: Source, K: Sink, P: Pac>(
     out: &mut K,
     host: &P,
 ) -> Exit
-    // Each answer has its cause, and with each the report or a line is written, or a proper prefix of that.
+    // Each answer has its cause, and with each the text or a line is written, or a proper prefix of that.
     ensures answer { IsAnswer record {
-      file = file_to_run (map string_bytes words.now);
-      code = P.code host.now;
-      reading = record {
-        told = H.told shelf.old;
-        given_before = H.given shelf.old;
-        given_now = H.given shelf.new;
-        faults_before = H.faults shelf.old;
-        faults_now = H.faults shelf.new;
-        failed_before = H.failed shelf.old;
-        failed_now = H.failed shelf.new;
+      words = map string_bytes words.now;
+      host = P.code host.now;
+      told = H.told shelf.old;
+      before = record {
+        shelf = shelf_seen H.given H.faults H.failed shelf.old;
+        source = source_seen S.left S.given S.faults input.old;
+      };
+      now = record {
+        shelf = shelf_seen H.given H.faults H.failed shelf.new;
+        source = source_seen S.left S.given S.faults input.new;
       };
       written_before = K.written out.old;
       written_now = K.written out.new;
@@ -124,22 +155,12 @@ pub fn paclab<H: Shelf, S: Source, K: Sink, P: Pac>(
       write_faults_now = K.faults out.new;
     } result }
 
-    // Each cause has its answer, but for out of memory.
-    ensures usage { file_to_run (map string_bytes words.now) ≡ None → (result ≡ Exit.Usage UseFault.U1) × (shelf.new ≡ shelf.old) }
-    ensures refused { (refusal : Refusal) → IsSomeAnd (file_to_run (map string_bytes words.now)) (λ name.
-        KnownText (H.told shelf.old name) (IsRefused refusal)) → ¬ Rose (H.faults shelf.old) (H.faults shelf.new)
-        → IsUnlessMemory result (Exit.Refused refusal) }
-    ensures complete { IsSomeAnd (file_to_run (map string_bytes words.now)) (λ name.
-        KnownText (H.told shelf.old name) IsAccepted) → ¬ Rose (H.faults shelf.old) (H.faults shelf.new)
-        → ¬ Rose (K.faults out.old) (K.faults out.new) → IsUnlessMemory result Exit.Done }
-
-    // What stays: the source, and what the shelf tells.
-    ensures source { input.new ≡ input.old }
+    // What stays: what the shelf tells, and the source unless the words ask for it.
     ensures tells { H.told shelf.new ≡ H.told shelf.old }
+    ensures source { UnlessFromSource (spelled (map string_bytes words.now)) (input.new ≡ input.old) }
 {
-    let _ = input;
-    match answer(alloc, words, shelf, host) {
-        Ok(ran) => match report(&ran, false, out) {
+    match answer(alloc, words, shelf, input, host) {
+        Ok(printed) => match write_printed(&printed, out) {
             Ok(()) => Exit::Done,
             Err(Failed) => Exit::WriteFault,
         },

@@ -18,4 +18,4 @@ pub returns : goal.returns
 returns g c =
     let written = subst (IsImage (image_of c.args.program.now)) (sym c.deref.ensures.value) c.in_ok-bytes.ensures in
     let same : c.in_ok-image.image ≡ image_of c.args.program.now = one_image c.in_ok-image.image (image_of c.args.program.now) c.deref.result.now c.in_ok-image.ensures written in
-    subst (λ (image : Image). IfOk c.load_program.result (λ loaded. IsLoaded (g.P.Pac.code c.args.host.now) image pal 0 (state_of loaded))) same c.load_program.ensures
+    subst (λ (image : Image). IfOk c.load_program.result (λ loaded. IsLoaded (g.P.Pac.code c.args.p.now) image pal c.args.slide (state_of loaded))) same c.load_program.ensures

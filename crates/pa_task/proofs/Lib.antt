@@ -1,0 +1,4 @@
+pub mod OneTask
+mod OneText
+mod Parts
+pub mod Stops
