@@ -90,3 +90,64 @@ pub const CALLS_POINTER: &[u32] = &[
     0xd280_0860, // movz x0, #67
     0xd65f_03c0, // ret x30
 ];
+
+/// Signs a pointer to each of two functions under one modifier, 7, keeps both in its data, and calls the first there. It
+/// prints a, the second function b.
+pub const CALLS_FIRST: &[u32] = &[
+    0x9000_0029, // adrp x9, #4
+    0xd280_00ea, // movz x10, #7
+    0x9000_0008, // adrp x8, #0
+    0x9110_e108, // add x8, x8, #1080
+    0xdac1_0148, // pacia x8, x10
+    0xf900_0128, // str x8, [x9, #0]
+    0x9000_0008, // adrp x8, #0
+    0x9111_1108, // add x8, x8, #1092
+    0xdac1_0148, // pacia x8, x10
+    0xf900_0528, // str x8, [x9, #8]
+    0xf940_0128, // ldr x8, [x9, #0]
+    0xd73f_090a, // blraa x8, x10
+    0xd280_0000, // movz x0, #0
+    0xd400_0061, // svc #3
+    0xd280_0c20, // movz x0, #97
+    0xd400_0021, // svc #1
+    0xd65f_03c0, // ret x30
+    0xd280_0c40, // movz x0, #98
+    0xd400_0021, // svc #1
+    0xd65f_03c0, // ret x30
+];
+
+/// The same with modifiers of the pointers' own addresses, and 7 in their upper bits.
+pub const CALLS_FIRST_BY_PLACE: &[u32] = &[
+    0x9000_0029, // adrp x9, #4
+    0x9000_0008, // adrp x8, #0
+    0x9111_3108, // add x8, x8, #1100
+    0x9100_012a, // add x10, x9, #0
+    0xf2e0_00ea, // movk x10, #7, lsl #48
+    0xdac1_0148, // pacia x8, x10
+    0xf900_0128, // str x8, [x9, #0]
+    0x9000_0008, // adrp x8, #0
+    0x9111_6108, // add x8, x8, #1112
+    0x9100_212a, // add x10, x9, #8
+    0xf2e0_00ea, // movk x10, #7, lsl #48
+    0xdac1_0148, // pacia x8, x10
+    0xf900_0528, // str x8, [x9, #8]
+    0xf940_0128, // ldr x8, [x9, #0]
+    0x9100_012a, // add x10, x9, #0
+    0xf2e0_00ea, // movk x10, #7, lsl #48
+    0xd73f_090a, // blraa x8, x10
+    0xd280_0000, // movz x0, #0
+    0xd400_0061, // svc #3
+    0xd280_0c20, // movz x0, #97
+    0xd400_0021, // svc #1
+    0xd65f_03c0, // ret x30
+    0xd280_0c40, // movz x0, #98
+    0xd400_0021, // svc #1
+    0xd65f_03c0, // ret x30
+];
+
+/// Prints A again and again.
+pub const PRINTS_FOREVER: &[u32] = &[
+    0xd280_0820, // movz x0, #65
+    0xd400_0021, // svc #1
+    0x17ff_fffe, // b #-2
+];

@@ -4,7 +4,7 @@ ghost use Rattle.std.specs.Prelude.{◌≡◌, ◌*◌, ◌≤◌, IfOk, length}
 
 use pa_log::{Entry, Event, Log};
 use pa_machine::{End, Loaded, Machine};
-use pa_mem::{Rights, Space};
+use pa_mem::{Abort, Rights, Size, Space};
 use pa_num::{Bytes, Fault, Memory};
 use pa_pac::Pac;
 use pa_script::{ScriptRule, fits, read_script};
@@ -21,9 +21,6 @@ const STACK: u64 = 0x1_6FFF_FF00;
 
 /// Where the stack begins, at its end.
 const SP: u64 = 0x1_7000_0000;
-
-/// More instructions than any of the programs runs.
-const BOUND: u32 = 1000;
 
 /// How many signatures, accepted authentications, indirect branches and acceptances of what was never signed a log has.
 #[derive(Clone, Copy, Debug, PartialEq, Eq)]
@@ -61,12 +58,14 @@ impl Counts {
     }
 }
 
-/// How a run ended, and what it printed and logged.
+/// How a run ended, what it printed and logged, and the first byte of its data then.
 #[derive(Debug, Drop)]
 pub struct Shown {
     pub end: End,
     pub output: Bytes,
+    pub log: Log,
     pub counts: Counts,
+    pub data: Result<u64, Abort>,
 }
 
 fn code(alloc: Global, words: &[u32]) -> Result<Bytes, Memory>
@@ -118,12 +117,13 @@ fn space(alloc: Global, words: &[u32], bytes: &[u8; 16]) -> Result<Space, Memory
     Ok(space)
 }
 
-/// Runs a program of these words and this data beside the script of this text.
+/// Runs at most `bound` instructions of a program of these words and this data beside the script of this text.
 pub fn run_beside<P: Pac>(
     alloc: Global,
     words: &[u32],
     bytes: &[u8; 16],
     text: &[u8],
+    bound: u32,
     p: &P,
 ) -> Result<Shown, Fault<ScriptRule>> {
     let script = read_script(alloc, text)?;
@@ -140,12 +140,15 @@ pub fn run_beside<P: Pac>(
             place: u64::from(line),
         });
     }
-    let end = machine.run(script.as_slice(), BOUND)?;
+    let end = machine.run(script.as_slice(), bound)?;
+    let data = machine.space().read(DATA, Size::B1);
     let (output, log) = machine.into_parts();
     let counts = Counts::of(log.entries());
     Ok(Shown {
         end,
         output,
+        log,
         counts,
+        data,
     })
 }

@@ -3,8 +3,6 @@
 
 mod kept;
 mod machine;
-#[cfg(test)]
-mod tests;
 mod went;
 
 pub use machine::Machine;

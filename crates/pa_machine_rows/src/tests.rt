@@ -2,13 +2,19 @@ ghost use Rattle.std.specs.Prelude.{◌≡◌, IfOk, length, List, true};
 ghost use Rattle.pa_mem.specs.Memory.{Region, Read, Write, allowed};
 ghost use Rattle.pa_object.specs.Script.{deed_fits, is_line};
 
-use crate::{End, Flags, Loaded, Machine, Trap};
 use pa_log::Log;
+use pa_machine::{End, Flags, Loaded, Machine, Trap};
 use pa_mem::{Rights, Size, Space};
 use pa_num::{Bytes, Memory};
 use pa_object::{Deed, Item};
 use pa_pac::{Entry, Event, Key, Way, When, ZeroPac};
 use std::alloc::Global;
+
+const ALL: Rights = Rights {
+    read: true,
+    write: true,
+    run: true,
+};
 
 fn sixteen(alloc: Global) -> Result<Bytes, Memory>
     ensures { IfOk result (λ bytes. length bytes ≡ 16) }
@@ -28,14 +34,10 @@ fn space(alloc: Global, words: &[u32], rights: Rights) -> Result<Space, Memory>
         write: true,
         run: false,
     };
-    let mut code = Bytes::new(alloc);
-    for word in words {
-        code.extend_from_slice(&word.to_le_bytes())?;
-    }
     let mut space = Space::new(alloc);
     space.add(0x2000, sixteen(alloc)?, data)?;
     space.add(0x2010, sixteen(alloc)?, data)?;
-    space.add(0x4000, code, rights)?;
+    space.add(0x4000, code(alloc, words)?, rights)?;
     if space.inside(0x2000, 16, Rights::READ) && space.inside(0x2010, 16, Rights::WRITE) {
         Ok(space)
     } else {
@@ -168,13 +170,8 @@ fn runs_what_it_has_written(rt: HostRuntime) {
         0xB900_0C22,
         0x17FF_FFFE,
     ];
-    let all = Rights {
-        read: true,
-        write: true,
-        run: true,
-    };
     let rows = [
-        (all, End::Exit(5)),
+        (ALL, End::Exit(5)),
         (Rights::RUN, End::Trap(Trap::DataAbort)),
     ];
     for (rights, expected) in rows {
@@ -184,6 +181,55 @@ fn runs_what_it_has_written(rt: HostRuntime) {
         );
         assert_eq!(rt; machine.run(&[], 100), Ok(expected));
     }
+}
+
+// movz x0, #5; ret x30.
+fn gives_five(alloc: Global) -> Result<Bytes, Memory>
+    ensures { IfOk result (λ bytes. length bytes ≡ 8) }
+{
+    let bytes = Bytes::from_slice(alloc, &[0xA0, 0x00, 0x80, 0xD2, 0xC0, 0x03, 0x5F, 0xD6])?;
+    Ok(bytes)
+}
+
+fn code(alloc: Global, words: &[u32]) -> Result<Bytes, Memory> {
+    let mut code = Bytes::new(alloc);
+    for word in words {
+        code.extend_from_slice(&word.to_le_bytes())?;
+    }
+    Ok(code)
+}
+
+// Code at 0x1000 that may also be written, and these words at 0x4000, which may be run alone.
+fn two_codes(alloc: Global, words: &[u32]) -> Result<Space, Memory> {
+    let mut space = Space::new(alloc);
+    space.add(0x1000, gives_five(alloc)?, ALL)?;
+    space.add(0x4000, code(alloc, words)?, Rights::RUN)?;
+    Ok(space)
+}
+
+#[test]
+fn runs_what_it_has_written_beside_code_that_stays(rt: HostRuntime) {
+    // Calls what stands at 0x1000, writes svc #3 there, and calls it again.
+    let words = [
+        0xD282_0001,
+        0xD63F_0020,
+        0xD280_0C22,
+        0xF2BA_8002,
+        0xB900_0022,
+        0xD63F_0020,
+        0xD420_0000,
+    ];
+    let loaded = Loaded {
+        space: two_codes(rt.alloc(), &words).expect(&rt, "ample memory"),
+        log: Log::new(rt.alloc()),
+        pc: 0x4000,
+        sp: 0x2010,
+    };
+    let mut machine = Machine::new(rt.alloc(), loaded, &[], &ZeroPac).expect(&rt, "ample memory");
+    assert_eq!(rt; machine.run(&[], 4), Ok(End::Bound));
+    assert_eq!(rt; (machine.pc(), machine.registers()[0]), (0x4008, 5));
+    assert_eq!(rt; machine.run(&[], 100), Ok(End::Exit(5)));
+    assert_eq!(rt; machine.count(), 9);
 }
 
 #[test]

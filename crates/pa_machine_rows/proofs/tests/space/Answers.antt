@@ -1,6 +1,6 @@
 use Rattle.std.proofs.Common.{arith}
 use Rattle.pa_machine.proofs.Regions.{apart_first, apart_next}
-use Rattle.pa_machine.proofs.tests.space.Goals as goal
+use Rattle.pa_machine_rows.proofs.tests.space.Goals as goal
 
 pub add-requires : goal.add-requires
 add-requires c = record { apart = apart_first _ _ c.new-space.ensures }
