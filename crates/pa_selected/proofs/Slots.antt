@@ -16,10 +16,11 @@ use Rattle.pa_lir.specs.Values.{FlatValue}
 use Rattle.pa_lir.specs.Meaning.{Open, temp_in, with_temp}
 use Rattle.pa_frame.specs.Frames.{place_of_temp, place_of_local, size_of_frame}
 use Rattle.pa_frame.proofs.Places.{bytes_aligned}
-use Rattle.pa_select.specs.Calls.{IsRunning, HasFrameAt, Addresses, StandsFor, IsOpen}
+use Rattle.pa_selected.specs.Values.{Addresses, StandsFor}
+use Rattle.pa_selected.specs.Calls.{IsRunning, HasFrameAt, IsOpen}
 use Rattle.pa_select.specs.Selected.{load_temp, store_temp}
-use Rattle.pa_select.proofs.Straight.{Goes, no_touch, fine_later}
-use Rattle.pa_select.proofs.Accessing.{Makes, Stores, loads, stores}
+use Rattle.pa_selected.proofs.Straight.{Goes, no_touch, fine_later}
+use Rattle.pa_selected.proofs.Accessing.{Makes, Stores, loads, stores}
 
 -- the registers that operations compute with
 abbrev pub scratch : ℕ → Bool
@@ -87,7 +88,7 @@ module _ (pac : Code) (addresses : Addresses) (o : Open) (m : Machine) (call : I
     running = fine_later pac n m later _ touched call.running g;
     frame = frame_later pac o.function n m later _ touched call.frame g;
     temps = λ t v e. temp_is t v (cases_eq to t) e;
-    locals = λ l h. call.locals l h ∙ ap (λ s. s + place_of_local o.function l) (sym g.sp);
+    locals = record { count = call.locals.count; places = λ l h. call.locals.places l h ∙ ap (λ s. s + place_of_local o.function l) (sym g.sp) };
   }
     where
       at : ℕ → ℕ

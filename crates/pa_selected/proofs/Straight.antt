@@ -9,7 +9,7 @@ use Rattle.pa_object.specs.Effects.{with_memory}
 use Rattle.pa_object.specs.Run.{step, advance_by, applied_all}
 use Rattle.pa_object.specs.Placed.{HasCode}
 use Rattle.pa_object.specs.Widths.{HasWidths}
-use Rattle.pa_select.specs.Calls.{IsRunning}
+use Rattle.pa_selected.specs.Calls.{IsRunning}
 use Rattle.pa_object.proofs.Steps.{add64_small, register-set}
 use Rattle.pa_object.proofs.Growth.{advance-goes, advance_by-add, advance_by_leaves}
 use Rattle.pa_object.proofs.Fetched.{Separate, separate-outlines, run_fetched}
