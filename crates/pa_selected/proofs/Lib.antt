@@ -7,3 +7,6 @@ mod Slots
 mod Storing
 pub mod Steps
 pub mod Branching
+mod Bytes
+mod Keeping
+mod Giving

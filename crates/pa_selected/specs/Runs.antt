@@ -26,6 +26,7 @@ IsOffSlots w at size =
 pub record Simulates (w : World) (addresses : Addresses) (s : Flat) (m : Machine) : Type 0 where
   pub running : IsRunning m
   pub placed : HasCodeAndStack w m.memory
+  pub room : w.low ≤ m.sp
   pub objects : HasObjects addresses s.objects m.memory
   pub slots : Living addresses s.objects (λ p object at size. IsOffSlots w at size)
   pub frames : HasCallFrames w addresses s.objects m.memory (length s.objects) m.sp s.opens
