@@ -1,14 +1,7 @@
-pub mod Accessing
-mod Costs
-mod Lengths
+pub mod Costs
+pub mod Lengths
 mod Linking
-pub mod Moves
-pub mod Operating
 mod Others
 mod Passes
 mod Ranges
 mod Selectable
-pub mod Slots
-pub mod Steps
-pub mod Storing
-pub mod Straight

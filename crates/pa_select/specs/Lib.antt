@@ -6,4 +6,3 @@ pub mod Computing
 pub mod Selected
 pub mod Selectable
 pub mod Objects
-pub mod Calls

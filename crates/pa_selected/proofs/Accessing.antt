@@ -15,8 +15,8 @@ use Rattle.pa_object.proofs.Steps.{add64_small}
 use Rattle.pa_object.proofs.StepsComputing.{sum_immediate_step}
 use Rattle.pa_object.proofs.StepsMemory.{load_store_step}
 use Rattle.pa_select.specs.Accesses as access
-use Rattle.pa_select.specs.Calls.{IsRunning}
-use Rattle.pa_select.proofs.Straight.{Goes, goes_then, goes_more, no_touch, fine_later, code_later, sets, puts}
+use Rattle.pa_selected.specs.Calls.{IsRunning}
+use Rattle.pa_selected.proofs.Straight.{Goes, goes_then, goes_more, no_touch, fine_later, code_later, sets, puts}
 
 -- these instructions make a register this number, and touch no others
 pub record Makes (code : Code) (n : ℕ) (m : Machine) (rd word : ℕ) (touched : ℕ → Bool) : Type 0 where

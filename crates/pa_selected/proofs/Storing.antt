@@ -19,19 +19,20 @@ use Rattle.pa_lir.specs.Values.{FlatValue, Number, At, extended}
 use Rattle.pa_lir.specs.Meaning.{Open, temp, with_temp}
 use Rattle.pa_frame.specs.Frames.{place_of_temp, place_of_local, size_of_frame}
 use Rattle.pa_frame.proofs.Taken.{temp_bytes_most}
-use Rattle.pa_select.specs.Calls.{IsRunning, HasFrameAt, Addresses, StandsFor, IsOpen}
+use Rattle.pa_selected.specs.Values.{Addresses, StandsFor}
+use Rattle.pa_selected.specs.Calls.{IsRunning, HasFrameAt, IsOpen}
 use Rattle.pa_select.specs.Computing as code
 use Rattle.pa_select.specs.Accesses.{address}
 use Rattle.pa_select.specs.Constants.{constant}
-use Rattle.pa_select.proofs.Moves.{constant_makes}
+use Rattle.pa_selected.proofs.Moves.{constant_makes}
 use Rattle.pa_select.specs.Selected.{load_temp, store_temp, operands, computed, code_of, words_of}
 use Rattle.pa_a64.specs.declared.instr.LoadStoreOp.TheVariants.{Ldr}
 use Rattle.pa_a64.specs.declared.instr.SumImmediateOp.TheVariants as immediate
 use Rattle.pa_select.proofs.Costs.{length-access, length-binary, length-constant, length-moved_by}
-use Rattle.pa_select.proofs.Straight.{Goes, untouched, goes_then, goes_more, fine_later, code_later}
-use Rattle.pa_select.proofs.Accessing.{Makes, makes_address}
-use Rattle.pa_select.proofs.Operating.{computed_by, computed_means, binary_makes, unary_makes, extension_makes}
-use Rattle.pa_select.proofs.Slots.{scratch, not_scratch, frame_later, loads_temp, stores_temp, stored_follows}
+use Rattle.pa_selected.proofs.Straight.{Goes, untouched, goes_then, goes_more, fine_later, code_later}
+use Rattle.pa_selected.proofs.Accessing.{Makes, makes_address}
+use Rattle.pa_selected.proofs.Operating.{computed_by, computed_means, binary_makes, unary_makes, extension_makes}
+use Rattle.pa_selected.proofs.Slots.{scratch, not_scratch, frame_later, loads_temp, stores_temp, stored_follows}
 
 -- These instructions store this word in the slot of a temporary.
 pub record StoresTemp (pac : Code) (f : LirFn) (n : ℕ) (m : Machine) (to word : ℕ) : Type 0 where
@@ -224,7 +225,7 @@ module _ (pac : Code) (addresses : Addresses) (o : Open) (m : Machine) (call : I
       → HasCode m.memory m.pc (code_of o.function words (op.Local to local)) → Gives pac addresses o (words_of o.function (op.Local to local)) m to (At (o.first + local) 0)
   local_follows words to local within few c =
       gives _ to _ (At (o.first + local) 0) few (local_stores pac o.function m call.running call.frame words to local within few room c)
-      (let lies = call.locals local within in omega (arith, lies))
+      (let some = call.locals.count in (omega arith, let lies = call.locals.places local within in omega (arith, lies)))
 
   pub const_follows : (words : ℤ) (to value : ℕ) → value < 2 ^ 64 → to < held o.function → HasCode m.memory m.pc (code_of o.function words (op.Const to value))
       → Gives pac addresses o (words_of o.function (op.Const to value)) m to (Number value)

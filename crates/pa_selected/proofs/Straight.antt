@@ -3,15 +3,15 @@ use Rattle.std.proofs.Common.{◌≡◌, ℕ, ◌+◌, ◌*◌, ◌^◌, ◌<◌
 use Rattle.std.specs.Prelude.{◌||◌, ◌&&◌}
 use Rattle.pa_pac.specs.Signing.{Code}
 use Rattle.pa_a64.specs.declared.instr.Instr.{Instr}
-use Rattle.pa_mem.specs.Memory.{Region, fetch, store}
+use Rattle.pa_mem.specs.Memory.{Region, Right, allowed, fetch, store}
 use Rattle.pa_object.specs.Machine.{Machine, register, with_register, next}
 use Rattle.pa_object.specs.Effects.{with_memory}
 use Rattle.pa_object.specs.Run.{step, advance_by, applied_all}
 use Rattle.pa_object.specs.Placed.{HasCode}
 use Rattle.pa_object.specs.Widths.{HasWidths}
-use Rattle.pa_select.specs.Calls.{IsRunning}
+use Rattle.pa_selected.specs.Calls.{IsRunning}
 use Rattle.pa_object.proofs.Steps.{add64_small, register-set}
-use Rattle.pa_object.proofs.Growth.{advance-goes, advance_by-add, advance_by_leaves}
+use Rattle.pa_object.proofs.Growth.{advance-goes, advance_by-add, advance_by_leaves, allowed-outlines}
 use Rattle.pa_object.proofs.Fetched.{Separate, separate-outlines, run_fetched}
 use Rattle.pa_object.proofs.Wide.{run_wide}
 use Rattle.pa_object.proofs.Widths.{run_widths}
@@ -80,22 +80,33 @@ module _ (code : Code) where
   separate : (m : Machine) → IsRunning m → Separate m.memory
   separate m fine = record { apart = fine.apart; exclusive = fine.exclusive }
 
-  separate_later : (n : ℕ) (m later : Machine) (left : List Region) (touched : ℕ → Bool) → IsRunning m → Goes code n m later left touched → Separate later.memory
-  separate_later n m later left touched fine g = subst (λ (x : Machine). Separate x.memory) g.runs (separate-outlines m.memory _ (advance_by_leaves code [] n m).memory (separate m fine))
+  separate_behind : (n : ℕ) (m later : Machine) → IsRunning m → advance_by code [] n m ≡ later → Separate later.memory
+  separate_behind n m later fine runs = subst (λ (x : Machine). Separate x.memory) runs (separate-outlines m.memory _ (advance_by_leaves code [] n m).memory (separate m fine))
 
-  pub fine_later : (n : ℕ) (m later : Machine) (left : List Region) (touched : ℕ → Bool) → IsRunning m → Goes code n m later left touched → IsRunning later
-  fine_later n m later left touched fine g = record {
-    going = g.ended;
-    wide = subst (λ (x : Machine). length x.registers ≡ 31) g.runs (run_wide code [] n m ∙ fine.wide);
-    widths = subst HasWidths g.runs (run_widths code [] n m refl fine.widths);
-    apart = (separate_later n m later left touched fine g).apart;
-    exclusive = (separate_later n m later left touched fine g).exclusive;
+  pub runs_on : (n : ℕ) (m later : Machine) → IsRunning m → advance_by code [] n m ≡ later → later.ended ≡ None → IsRunning later
+  runs_on n m later fine runs ended = record {
+    going = ended;
+    wide = subst (λ (x : Machine). length x.registers ≡ 31) runs (run_wide code [] n m ∙ fine.wide);
+    widths = subst HasWidths runs (run_widths code [] n m refl fine.widths);
+    apart = (separate_behind n m later fine runs).apart;
+    exclusive = (separate_behind n m later fine runs).exclusive;
   }
 
-  -- what stands in memory still stands behind a part
+  -- what stands in memory still stands there
+  pub code_stays : (n : ℕ) (m later : Machine) → IsRunning m → advance_by code [] n m ≡ later → (is : List Instr) (at : ℕ) → HasCode m.memory at is → HasCode later.memory at is
+  code_stays n m later fine runs is at c =
+      HasCode-same m.memory later.memory at is (λ p low high. ap (λ (x : Machine). fetch x.memory p) (sym runs) ∙ run_fetched code [] n m p (separate m fine) refl) c
+
+  -- and may be read and written as before
+  pub allowed_stays : (n : ℕ) (m later : Machine) → advance_by code [] n m ≡ later → (right : Right) (at k : ℕ) → allowed right later.memory at k ≡ allowed right m.memory at k
+  allowed_stays n m later runs right at k =
+      ap (λ (x : Machine). allowed right x.memory at k) (sym runs) ∙ allowed-outlines right _ m.memory at k (advance_by_leaves code [] n m).memory
+
+  pub fine_later : (n : ℕ) (m later : Machine) (left : List Region) (touched : ℕ → Bool) → IsRunning m → Goes code n m later left touched → IsRunning later
+  fine_later n m later left touched fine g = runs_on n m later fine g.runs g.ended
+
   pub code_same : (n : ℕ) (m later : Machine) (left : List Region) (touched : ℕ → Bool) (is : List Instr) (at : ℕ) → IsRunning m → Goes code n m later left touched → HasCode m.memory at is → HasCode later.memory at is
-  code_same n m later left touched is at fine g c =
-      HasCode-same m.memory later.memory at is (λ p low high. ap (λ (x : Machine). fetch x.memory p) (sym g.runs) ∙ run_fetched code [] n m p (separate m fine) refl) c
+  code_same n m later left touched is at fine g c = code_stays n m later fine g.runs is at c
 
   -- and so do the instructions that come next
   pub code_later : (n : ℕ) (m later : Machine) (left : List Region) (touched : ℕ → Bool) (is : List Instr) → IsRunning m → Goes code n m later left touched → HasCode m.memory (m.pc + 4 * n) is → HasCode later.memory later.pc is

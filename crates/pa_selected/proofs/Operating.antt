@@ -41,9 +41,9 @@ use Rattle.pa_lir.specs.Operators.{truth, biased, remainder, of_numbers, of_numb
 use Rattle.pa_lir.specs.Values as value
 use Rattle.pa_lir.specs.WellFormed.{IsWidth}
 use Rattle.pa_select.specs.Computing as code
-use Rattle.pa_select.specs.Calls.{IsRunning}
-use Rattle.pa_select.proofs.Straight.{Goes, goes_then, goes_more, no_touch, one, fine_later, code_later, sets}
-use Rattle.pa_select.proofs.Accessing.{Makes, set_value}
+use Rattle.pa_selected.specs.Calls.{IsRunning}
+use Rattle.pa_selected.proofs.Straight.{Goes, goes_then, goes_more, no_touch, one, fine_later, code_later, sets}
+use Rattle.pa_selected.proofs.Accessing.{Makes, set_value}
 
 -- ---- numbers
 

@@ -11,10 +11,10 @@ use Rattle.pa_object.specs.Machine.{Machine, register, with_register, next}
 use Rattle.pa_object.specs.Run.{step}
 use Rattle.pa_object.specs.Placed.{HasCode, Stands}
 use Rattle.pa_object.proofs.StepsComputing.{move_wide_step}
-use Rattle.pa_select.specs.Calls.{IsRunning}
+use Rattle.pa_selected.specs.Calls.{IsRunning}
 use Rattle.pa_select.specs.Constants.{part, left_by, others, first_move, more_moves, moves, is_inverted, constant}
-use Rattle.pa_select.proofs.Straight.{Goes, untouched, goes_then, goes_more, goes_none, fine_later, code_later, sets}
-use Rattle.pa_select.proofs.Accessing.{Makes, set_value}
+use Rattle.pa_selected.proofs.Straight.{Goes, untouched, goes_then, goes_more, goes_none, fine_later, code_later, sets}
+use Rattle.pa_selected.proofs.Accessing.{Makes, set_value}
 
 -- ---- numbers
 

@@ -1,5 +1,5 @@
 -- Loads and stores of temporaries in the frame.
-use Rattle.std.proofs.Common.{◌≡◌, ◌≢◌, ℕ, ◌+◌, ◌%◌, ◌^◌, ◌≤◌, ◌<◌, ◌⊎◌, inl, inr, Bool, false, cond, eqb, List, [], length, Some, sym, ap, subst, ◌∙◌, arith}
+use Rattle.std.proofs.Common.{◌≡◌, ◌≢◌, ℕ, ◌+◌, ◌%◌, ◌^◌, ◌≤◌, ◌<◌, ◌⊎◌, inl, inr, Bool, false, cond, eqb, List, length, Some, sym, ap, subst, ◌∙◌, arith}
 use Rattle.std.specs.Prelude.{◌||◌, unwrap_or}
 use Rattle.std.proofs.lemmas.Bool.{cases_eq, eq-eqb, ne_eqb}
 use Rattle.std.proofs.lemmas.List.Sums.{sum_by-take-le}
@@ -9,17 +9,17 @@ use Rattle.pa_mem.proofs.Bytes.{allowed-part}
 use Rattle.pa_mem.proofs.Ranges.{load-store-other, load-store-allowed}
 use Rattle.pa_object.specs.Machine.{Machine, register}
 use Rattle.pa_object.specs.Placed.{HasCode}
-use Rattle.pa_object.proofs.Growth.{allowed-outlines, advance_by_leaves}
 use Rattle.pa_lir.specs.declared.function.LirFn.{LirFn}
 use Rattle.pa_lir.specs.Parts.{held, rounded}
 use Rattle.pa_lir.specs.Values.{FlatValue}
 use Rattle.pa_lir.specs.Meaning.{Open, temp_in, with_temp}
 use Rattle.pa_frame.specs.Frames.{place_of_temp, place_of_local, size_of_frame}
 use Rattle.pa_frame.proofs.Places.{bytes_aligned}
-use Rattle.pa_select.specs.Calls.{IsRunning, HasFrameAt, Addresses, StandsFor, IsOpen}
+use Rattle.pa_selected.specs.Values.{Addresses, StandsFor}
+use Rattle.pa_selected.specs.Calls.{IsRunning, HasFrameAt, IsOpen}
 use Rattle.pa_select.specs.Selected.{load_temp, store_temp}
-use Rattle.pa_select.proofs.Straight.{Goes, no_touch, fine_later}
-use Rattle.pa_select.proofs.Accessing.{Makes, Stores, loads, stores}
+use Rattle.pa_selected.proofs.Straight.{Goes, no_touch, fine_later, allowed_stays}
+use Rattle.pa_selected.proofs.Accessing.{Makes, Stores, loads, stores}
 
 -- the registers that operations compute with
 abbrev pub scratch : ℕ → Bool
@@ -49,8 +49,7 @@ module _ (f : LirFn) (t : ℕ) (h : t < held f) where
 
 pub frame_later : (pac : Code) (f : LirFn) (n : ℕ) (m later : Machine) (left : List Region) (touched : ℕ → Bool) → HasFrameAt f m → Goes pac n m later left touched → HasFrameAt f later
 frame_later pac f n m later left touched frame g =
-    let same : (right : Right) → allowed right later.memory m.sp (size_of_frame f) ≡ allowed right m.memory m.sp (size_of_frame f) = λ right.
-    ap (λ (x : Machine). allowed right x.memory m.sp (size_of_frame f)) (sym g.runs) ∙ allowed-outlines right _ m.memory m.sp (size_of_frame f) (advance_by_leaves pac [] n m).memory in
+    let same : (right : Right) → allowed right later.memory m.sp (size_of_frame f) ≡ allowed right m.memory m.sp (size_of_frame f) = λ right. allowed_stays pac n m later g.runs right m.sp (size_of_frame f) in
     record {
       reads = ap (λ s. allowed Read later.memory s (size_of_frame f)) g.sp ∙ (same Read ∙ frame.reads);
       writes = ap (λ s. allowed Write later.memory s (size_of_frame f)) g.sp ∙ (same Write ∙ frame.writes);
@@ -87,7 +86,7 @@ module _ (pac : Code) (addresses : Addresses) (o : Open) (m : Machine) (call : I
     running = fine_later pac n m later _ touched call.running g;
     frame = frame_later pac o.function n m later _ touched call.frame g;
     temps = λ t v e. temp_is t v (cases_eq to t) e;
-    locals = λ l h. call.locals l h ∙ ap (λ s. s + place_of_local o.function l) (sym g.sp);
+    locals = record { count = call.locals.count; places = λ l h. call.locals.places l h ∙ ap (λ s. s + place_of_local o.function l) (sym g.sp) };
   }
     where
       at : ℕ → ℕ

@@ -1,0 +1,4 @@
+pub mod Worlds
+pub mod Values
+pub mod Calls
+pub mod Runs
