@@ -1,2 +1,4 @@
+mod Answered
 mod Causes
+mod OneAnswer
 mod Stops

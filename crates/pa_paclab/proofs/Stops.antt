@@ -1,5 +1,5 @@
 -- What stops a command is never that it is done.
-use Rattle.std.proofs.Common.{◌≡◌, ℕ, List, [], ◌∷◌, ◌⊎◌, inl, inr}
+use Rattle.std.proofs.Common.{List, [], ◌∷◌, ◌⊎◌, inl, inr}
 use Rattle.pa_pac.specs.Signing.{Code}
 use Rattle.pa_words.specs.declared.command.Command.{Command}
 use Rattle.pa_words.specs.declared.command.Command.TheVariants as command
@@ -11,7 +11,7 @@ use Rattle.pa_task.specs.Reading.{Text, Shelf, Outside}
 use Rattle.pa_task.proofs.Stops.{IsStop, refused, task_stops}
 use Rattle.pa_paclab.specs.Lines.{line_of}
 use Rattle.pa_paclab.specs.Runs.{code_of, RunStops}
-use Rattle.pa_paclab.specs.Answers.{Call, RunFails, CommandStops, WordsStop, IsStopped, Writes, WritesPart, IsAnswer}
+use Rattle.pa_paclab.specs.Answers.{Call, RunFails, CommandStops, WordsStop, IsStopped, Writes, WritesPart, Cause}
 
 run : (code : Code) (options : RunOptions) (task : Task) (answer : Exit) → RunStops code options task answer → IsStop answer
 run code options task Done p = p
@@ -46,7 +46,7 @@ stopped all host told before now answer (inr p) = command_stops host told p.0 be
 
 -- an answer that stops the command, with its line
 pub answered : (call : Call) (answer : Exit) → IsStopped call.words call.host call.told call.before call.now answer
-    → Writes call (line_of answer) ⊎ WritesPart call (line_of answer) → IsAnswer call answer
+    → Writes call (line_of answer) ⊎ WritesPart call (line_of answer) → Cause call answer
 answered call Done stops line = absurd (stopped call.words call.host call.told call.before call.now Done stops)
 answered call WriteFault stops line = absurd (stopped call.words call.host call.told call.before call.now WriteFault stops)
 answered call answer stops line = (stops, line)

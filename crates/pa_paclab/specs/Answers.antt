@@ -1,5 +1,5 @@
 -- When each answer of the top call comes, and what is written then.
-use Rattle.std.specs.Prelude.{◌≡◌, ℕ, List, [], ◌∷◌, ◌⊎◌, Option, Result, Ok, Err}
+use Rattle.std.specs.Prelude.{◌≡◌, ℕ, List, [], ◌∷◌, ⊤, ◌⊎◌, Option, Result, Ok, Err}
 use Rattle.pa_io.specs.Outside.{Rose, Grew, GrewByProperPrefix}
 use Rattle.pa_pac.specs.Signing.{Code}
 use Rattle.pa_sip.specs.Discriminator.{discriminator}
@@ -13,12 +13,14 @@ use Rattle.pa_words.specs.declared.command.UseFault.{UseFault}
 use Rattle.pa_words.specs.Usage.{spelled}
 use Rattle.pa_task.specs.declared.exit.Exit.{Exit}
 use Rattle.pa_task.specs.declared.exit.Exit.TheVariants as exit
+use Rattle.pa_task.specs.declared.exit.Refusal.{Refusal}
 use Rattle.pa_task.specs.declared.task.Task.{Task}
 use Rattle.pa_paclab.specs.Lines.{line_of}
 use Rattle.pa_paclab.specs.Printed.{disc_line}
 use Rattle.pa_task.specs.Reading.{Text, Shelf, Outside, NotSource, TaskRead, TaskStops}
 use Rattle.pa_task.specs.Refusals.{not_built}
-use Rattle.pa_paclab.specs.Runs.{code_of, is_short, IsRun, RunStops}
+use Rattle.pa_task.specs.Texts.{Texts, texts_of, HasTask, TaskRefused, NoReadFault, IsUnlessMemory}
+use Rattle.pa_paclab.specs.Runs.{code_of, is_short, Fits, IsRun, RunStops}
 
 -- ---- commands
 
@@ -67,6 +69,31 @@ IsStopped words host told before now answer =
     (WordsStop words answer × (now ≡ before))
     ⊎ ((c : Command) × (spelled words ≡ Ok c) × CommandStops host told c before now answer)
 
+-- ---- what texts call for, where no reading fails and memory suffices
+
+-- a run's texts don't pass their checks, or a line of its script doesn't fit the memory
+abbrev pub RunRefused : Code → Texts → Text → RunOptions → Refusal → Type 0
+RunRefused host texts file options refusal =
+    TaskRefused texts file options refusal
+    ⊎ ((task : Task) × HasTask texts file options task × RunStops (code_of host options) options task (exit.Refused refusal))
+
+-- a run's texts pass, and each line of its script fits
+abbrev pub RunAccepted : Code → Texts → Text → RunOptions → Type 0
+RunAccepted host texts file options =
+    (task : Task) × HasTask texts file options task × Fits (code_of host options) options task
+
+abbrev pub Refuses : Code → Texts → Command → Refusal → Type 0
+Refuses host texts (command.Run (file ∷ []) options) refusal = RunRefused host texts file options refusal
+Refuses host texts (command.Disc word) refusal = ⊥
+Refuses host texts other refusal = refusal ≡ not_built
+
+abbrev pub Accepts : Code → Texts → Command → Type 0
+Accepts host texts (command.Run (file ∷ []) options) = RunAccepted host texts file options
+Accepts host texts (command.Disc word) = ⊤
+Accepts host texts other = ⊥
+
+-- ---- the source
+
 -- unless a command reads the source: a run of one file whose input comes from there
 abbrev pub KeepsSource : Command → Type 0 → Type 0
 KeepsSource (command.Run (file ∷ []) options) P = NotSource options.input P
@@ -106,9 +133,28 @@ DoneWriting call Written =
     (text : Text) × IsDone call.words call.host call.told call.before call.now text × Written call text
 
 -- each answer: why it comes, and what is written then
-abbrev pub IsAnswer : Call → Exit → Type 0
-IsAnswer call exit.Done = DoneWriting call Writes
-IsAnswer call exit.WriteFault = DoneWriting call WritesPart
-IsAnswer call answer =
+abbrev pub Cause : Call → Exit → Type 0
+Cause call exit.Done = DoneWriting call Writes
+Cause call exit.WriteFault = DoneWriting call WritesPart
+Cause call answer =
     IsStopped call.words call.host call.told call.before call.now answer
     × (Writes call (line_of answer) ⊎ WritesPart call (line_of answer))
+
+-- the words spell a command that its texts refuse so, or that they accept
+abbrev pub IsRefused : Call → Refusal → Type 0
+IsRefused call refusal =
+    (c : Command) × (spelled call.words ≡ Ok c) × Refuses call.host (texts_of call.told call.before) c refusal
+
+abbrev pub IsAccepted : Call → Type 0
+IsAccepted call =
+    (c : Command) × (spelled call.words ≡ Ok c) × Accepts call.host (texts_of call.told call.before) c
+
+-- Each answer has its cause, and each cause its answer, but for out of memory: where the words break a rule of usage; where the texts
+-- are refused, and no reading failed; and where they are accepted, and nothing failed.
+pub record IsAnswer (call : Call) (answer : Exit) : Type 0 where
+  pub cause : Cause call answer
+  pub usage : (rule : UseFault) → spelled call.words ≡ Err rule → IsUnlessMemory (exit.Usage rule) answer
+  pub refused : (refusal : Refusal) → IsRefused call refusal → NoReadFault call.before call.now
+      → IsUnlessMemory (exit.Refused refusal) answer
+  pub complete : IsAccepted call → NoReadFault call.before call.now → ¬ Rose call.write_faults_before call.write_faults_now
+      → IsUnlessMemory exit.Done answer

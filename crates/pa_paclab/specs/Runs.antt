@@ -1,5 +1,5 @@
 -- The run that a command asks for, and its report.
-use Rattle.std.specs.Prelude.{◌≡◌, ℕ, List, [], Bool, true, false, ⊤, Some}
+use Rattle.std.specs.Prelude.{◌≡◌, ℕ, List, Bool, true, false, ⊤, Some}
 use Rattle.pa_pac.specs.Functions.{sip_value, fold_value}
 use Rattle.pa_pac.specs.Log.{Log}
 use Rattle.pa_pac.specs.Signing.{Code}
@@ -7,7 +7,6 @@ use Rattle.pa_object.specs.declared.end.End.{End}
 use Rattle.pa_object.specs.Machine.{Machine}
 use Rattle.pa_object.specs.Run.{run, end_of}
 use Rattle.pa_object.specs.Script.{all_fit}
-use Rattle.pa_image.specs.declared.image.Image.{Image}
 use Rattle.pa_image.specs.Small.{IsSmall}
 use Rattle.pa_image.specs.Writing.{IsLegal}
 use Rattle.pa_image.specs.Pal.{pal}
@@ -53,6 +52,10 @@ run_of code options task =
 abbrev pub report_of : RunOptions → Machine → List ℕ
 report_of options m = report_text m.output (end_of m) m.log (is_short options.log)
 
+-- each item of the script fits the memory
+abbrev pub Fits : Code → RunOptions → Task → Type 0
+Fits code options task = all_fit task.script (state_of code options task).memory ≡ true
+
 -- The run of a task leaves this output, this end and this log. The image of its program is legal and small, each run of the image
 -- without a script, under every PAC function and every slide, prints and returns what the program says, takes only what was signed,
 -- and enters the functions that the program calls; and each item of the script fits the memory.
@@ -60,7 +63,7 @@ pub record IsRun (code : Code) (options : RunOptions) (task : Task) (output : Li
   pub legal : IsLegal (image_of task.program)
   pub small : IsSmall (image_of task.program)
   pub runs : Runs (image_of task.program) task.program
-  pub fits : all_fit task.script (state_of code options task).memory ≡ true
+  pub fits : Fits code options task
   pub output_is : output ≡ (run_of code options task).output
   pub end_is : end ≡ end_of (run_of code options task)
   pub log_is : log ≡ (run_of code options task).log

@@ -136,7 +136,8 @@ pub fn paclab<H: Shelf, S: Source, K: Sink, P: Pac>(
     out: &mut K,
     host: &P,
 ) -> Exit
-    // Each answer has its cause, and with each the text or a line is written, or a proper prefix of that.
+    // Each answer has its cause, and with each the text or a line is written, or a proper prefix of that; and each cause has its
+    // answer, but for out of memory.
     ensures answer { IsAnswer record {
       words = map string_bytes words.now;
       host = P.code host.now;

@@ -1,5 +1,5 @@
 -- The run is that of the loaded state, whose memory the script fits.
-use Rattle.std.proofs.Common.{◌≡◌, ◌∙◌, List, ℕ, true, Some, ap, sym, subst}
+use Rattle.std.proofs.Common.{◌≡◌, ◌∙◌, List, ℕ, true, ap, sym, subst}
 use Rattle.pa_mem.specs.Memory.{Region}
 use Rattle.pa_object.specs.declared.script.Item.{Item}
 use Rattle.pa_object.specs.Machine.{Machine, begun}
