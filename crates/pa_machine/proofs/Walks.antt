@@ -11,7 +11,7 @@ use Rattle.pa_object.specs.Machine.{Machine}
 use Rattle.pa_object.specs.Run.{applied, applied_all, done_to}
 use Rattle.pa_object.specs.Script.{deed_fits, all_fit, size_of_deed, copy_is_short, writes_bytes, is_line, all_lines, ordered_from, is_script}
 use Rattle.pa_object.proofs.Growth.{outlines-deed, all_fit-outlines, applied_all-before}
-use Rattle.pa_machine.specs.Items.{IsRest}
+use Rattle.pa_machine.specs.Items.{IsRest, next_number}
 use Rattle.pa_machine.specs.Running.{Running}
 
 -- ---- lines
@@ -204,3 +204,19 @@ pub skipped-other : (number : ℕ) (items left : List Item) (item : Item) (behin
 skipped-other number items left item behind skipped is above =
     let parts = and_parts (leb 0 item.step) (ordered_from item.step behind) (subst (λ l. ordered_from 0 l ≡ true) is skipped.ordered) in
     subst (λ l. ordered_from number l ≡ true) (sym is) (and_from (leb number item.step) (ordered_from item.step behind) (le-leb number item.step above) parts.1)
+
+-- ---- the number of the next item
+
+pub next-most : (items : List Item) (bound : ℕ) → next_number items bound ≤ bound
+next-most [] bound = omega arith
+next-most (item ∷ items) bound = omega arith
+
+pub next-least : (number bound : ℕ) (items : List Item) → number ≤ bound → ordered_from number items ≡ true → number ≤ next_number items bound
+next-least number bound [] le h = le
+next-least number bound (item ∷ items) le h = let low = leb-true number item.step (and_parts (leb number item.step) (ordered_from item.step items) h).0 in omega arith
+
+pub next-ordered : (number bound from : ℕ) (items : List Item) → ordered_from number items ≡ true → from ≤ next_number items bound → ordered_from from items ≡ true
+next-ordered number bound from [] h le = refl
+next-ordered number bound from (item ∷ items) h le =
+    let parts = and_parts (leb number item.step) (ordered_from item.step items) h in
+    and_from (leb from item.step) (ordered_from item.step items) (le-leb from item.step (omega arith)) parts.1

@@ -2,9 +2,9 @@
 
 ghost use Rattle.std.specs.Prelude.{◌≡◌, ◌+◌, ◌-◌, ◌*◌, ◌^◌, ◌<◌, ◌≤◌, length, IfOk, IfErr, OnOk, OnErr, Some, None, [], ℕ, true};
 ghost use Rattle.pa_object.specs.Machine.{begun};
-ghost use Rattle.pa_object.specs.Run.{step, run, end_of, applied, applied_all};
+ghost use Rattle.pa_object.specs.Run.{step, advance_by, run, end_of, applied, applied_all};
 ghost use Rattle.pa_object.specs.Script.{deed_fits, all_fit, copy_is_short, all_lines, ordered_from, is_script};
-ghost use Rattle.pa_machine.specs.Items.{IsRest};
+ghost use Rattle.pa_machine.specs.Items.{IsRest, next_number};
 ghost use Rattle.pa_machine.specs.Running.{went};
 ghost use Rattle.pa_processor.specs.Processor.{Traps, instruction_at};
 
@@ -40,6 +40,16 @@ fn items_from(items: &[Item], number: u32) -> &[Item]
         rest = behind;
     }
     rest
+}
+
+// The number of the next item, or the bound where that comes first.
+fn next_number(items: &[Item], bound: u32) -> u32
+    ensures { result ≡ next_number items.now bound }
+{
+    match items.first() {
+        Some(item) => bound.min(item.step),
+        None => bound,
+    }
 }
 
 /// A machine under a function for the authentication codes. It takes memory only where it is made and in `reserve`, which
@@ -227,6 +237,13 @@ impl<'a, P: Pac> Machine<'a, P> {
         self.processor.space()
     }
 
+    // How many steps there is room for.
+    fn spare(&self) -> u32
+        ensures { result ≡ self.now.spare }
+    {
+        self.spare
+    }
+
     // Room for a step, made for several of those that are left: as many as have run, from 64 to 4,096.
     fn make_room(&mut self, left: u32) -> Result<(), Memory>
         requires { 0 < left }
@@ -255,16 +272,35 @@ impl<'a, P: Pac> Machine<'a, P> {
         if let Some(end) = self.ended() {
             return Ok(end);
         }
-        let start = self.count();
-        let mut items = items_from(script, start);
-        for count in start..bound {
+        let mut count = self.count();
+        let mut items = items_from(script, count);
+        while count < bound {
             self.make_room(bound - count)?;
             items = self.apply_all(items, count);
-            if let Went::Ended(end) = self.step() {
+            let steps = self.spare().min(next_number(items, bound) - count);
+            if let Went::Ended(end) = self.advance_by(steps) {
                 return Ok(end);
             }
+            count += steps;
         }
         Ok(End::Bound)
+    }
+
+    // So many instructions, unless the run ends before. No item of a script comes between them.
+    fn advance_by(&mut self, steps: u32) -> Went
+        requires spare { steps ≤ self.old.spare }
+        requires goes { self.old.machine.ended ≡ None }
+        requires count { self.old.machine.count + steps < 2 ^ 32 }
+        ensures machine { self.new.machine ≡ advance_by (P.code self.old.pac) [] steps self.old.machine }
+        ensures pac { self.new.pac ≡ self.old.pac }
+        ensures went { result ≡ went self.new.machine.ended }
+    {
+        for _ in 0..steps {
+            if let Went::Ended(end) = self.step() {
+                return Went::Ended(end);
+            }
+        }
+        Went::Goes
     }
 
     /// What the second writer does to memory, whatever the item's number. A copy reads all its bytes first, and has at most
