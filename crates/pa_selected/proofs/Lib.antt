@@ -9,4 +9,6 @@ pub mod Steps
 pub mod Branching
 mod Bytes
 mod Keeping
-mod Giving
+pub mod Giving
+mod Contents
+pub mod Operations

@@ -165,6 +165,14 @@ product-lt : (x y : ℕ) → mul64 x y < 2 ^ 64
 unfolding mul64
 product-lt x y = wrap-lt (x * y)
 
+-- a word is its own extension
+pub whole_signed : (x : ℕ) → x < 2 ^ 64 → sign_extended x 64 ≡ x
+whole_signed x h = go (eqb (bit_at x 63) 1)
+  where
+    go : (b : Bool) → cond b (x % 2 ^ 64 + (2 ^ 64 - 2 ^ 64)) (x % 2 ^ 64) ≡ x
+    go true = omega arith
+    go false = omega arith
+
 -- ---- instructions
 
 module _ (pac : Code) (m : Machine) (fine : IsRunning m) (room : m.pc + 8 < 2 ^ 64) where
@@ -272,13 +280,6 @@ module _ (pac : Code) (m : Machine) (fine : IsRunning m) (room : m.pc + 8 < 2 ^ 
 
   base : (n : ℕ) → n ≡ 0 → add64 (register 9 m) n ≡ register 9 m
   base n e = let fits = fine.widths.registers 9 in ap (add64 (register 9 m)) e ∙ (add64_small (register 9 m) 0 (omega arith) ∙ omega arith)
-
-  whole_signed : (x : ℕ) → x < 2 ^ 64 → sign_extended x 64 ≡ x
-  whole_signed x h = go (eqb (bit_at x 63) 1)
-    where
-      go : (b : Bool) → cond b (x % 2 ^ 64 + (2 ^ 64 - 2 ^ 64)) (x % 2 ^ 64) ≡ x
-      go true = omega arith
-      go false = omega arith
 
   loaded_lt : (n : ℕ) → load n m.memory (register 9 m) < 256 ^ n
   loaded_lt n = load-lt n m.memory (register 9 m) fine.widths.memory

@@ -1,11 +1,11 @@
 -- Operations that compute: the machine stands to the open call as before, with the temporary's new value.
-use Rattle.std.proofs.Common.{◌≡◌, ℕ, ◌+◌, ◌*◌, ◌^◌, ◌≤◌, ◌<◌, Bool, false, eqb, List, [], ◌∷◌, ◌++◌, length, Some, refl, sym, ap, subst, ◌∙◌, arith}
+use Rattle.std.proofs.Common.{◌≡◌, ℕ, ◌+◌, ◌*◌, ◌^◌, ◌≤◌, ◌<◌, Bool, true, false, eqb, List, [], ◌∷◌, ◌++◌, length, Some, refl, sym, ap, subst, ◌∙◌, arith}
 use Rattle.std.specs.Prelude.{ℤ, ◌||◌}
 use Rattle.std.proofs.lemmas.List.{length-append, append_assoc}
 use Rattle.std.proofs.lemmas.List.Sums.{sum_by-take-le}
 use Rattle.pa_pac.specs.Signing.{Code}
 use Rattle.pa_a64.specs.declared.instr.Instr.{Instr}
-use Rattle.pa_mem.specs.Memory.{store, load}
+use Rattle.pa_mem.specs.Memory.{Read, allowed, store, load}
 use Rattle.pa_object.specs.Machine.{Machine, register}
 use Rattle.pa_object.specs.Placed.{HasCode}
 use Rattle.pa_object.proofs.Placed.{HasCode-append}
@@ -17,6 +17,7 @@ use Rattle.pa_lir.specs.Parts.{held, rounded}
 use Rattle.pa_lir.specs.Operators.{of_numbers, of_number}
 use Rattle.pa_lir.specs.Values.{FlatValue, Number, At, extended}
 use Rattle.pa_lir.specs.Meaning.{Open, temp, with_temp}
+use Rattle.pa_lir.specs.WellFormed.{IsWidth}
 use Rattle.pa_frame.specs.Frames.{place_of_temp, place_of_local, size_of_frame}
 use Rattle.pa_frame.proofs.Taken.{temp_bytes_most}
 use Rattle.pa_selected.specs.Values.{Addresses, StandsFor}
@@ -31,7 +32,7 @@ use Rattle.pa_a64.specs.declared.instr.SumImmediateOp.TheVariants as immediate
 use Rattle.pa_select.proofs.Costs.{length-access, length-binary, length-constant, length-moved_by}
 use Rattle.pa_selected.proofs.Straight.{Goes, untouched, goes_then, goes_more, fine_later, code_later}
 use Rattle.pa_selected.proofs.Accessing.{Makes, makes_address}
-use Rattle.pa_selected.proofs.Operating.{computed_by, computed_means, binary_makes, unary_makes, extension_makes}
+use Rattle.pa_selected.proofs.Operating.{computed_by, computed_means, binary_makes, unary_makes, extension_makes, load_makes}
 use Rattle.pa_selected.proofs.Slots.{scratch, not_scratch, frame_later, loads_temp, stores_temp, stored_follows}
 
 -- These instructions store this word in the slot of a temporary.
@@ -159,6 +160,13 @@ module _ (pac : Code) (f : LirFn) (m : Machine) (running : IsRunning m) (frame :
       computed_stores (code.extended bits signed) from to _ a few room
       (λ k r low same e at. let made = extension_makes pac k r low bits signed some at in record { later = made.later; goes = made.goes; value = made.value ∙ ap (extended bits signed) e }) c
 
+  pub load_stores : (words : ℤ) (to at bytes : ℕ) (signed : Bool) → IsWidth bytes → allowed Read m.memory (slot f m at) bytes ≡ true → to < held f → at < held f → m.pc + 64 < 2 ^ 64 → HasCode m.memory m.pc (code_of f words (op.Load to at bytes signed))
+      → StoresTemp pac f (words_of f (op.Load to at bytes signed)) m to (extended (8 * bytes) signed (load bytes m.memory (slot f m at)))
+  load_stores words to at bytes signed width may few a room c =
+      computed_stores (code.load_sized bytes signed) at to _ a few room
+      (λ k r low same e here. let made = load_makes pac k r low bytes signed width (ap (λ x. allowed Read x (register 9 k) bytes) same ∙ (ap (λ p. allowed Read m.memory p bytes) e ∙ may)) here in
+      record { later = made.later; goes = made.goes; value = made.value ∙ (ap (λ x. extended (8 * bytes) signed (load bytes x (register 9 k))) same ∙ ap (λ p. extended (8 * bytes) signed (load bytes m.memory p)) e) }) c
+
   pub local_stores : (words : ℤ) (to local : ℕ) → local < length f.locals → to < held f → m.pc + 64 < 2 ^ 64 → HasCode m.memory m.pc (code_of f words (op.Local to local))
       → StoresTemp pac f (words_of f (op.Local to local)) m to (m.sp + place_of_local f local)
   local_stores words to local within few room c =
@@ -226,6 +234,13 @@ module _ (pac : Code) (addresses : Addresses) (o : Open) (m : Machine) (call : I
   local_follows words to local within few c =
       gives _ to _ (At (o.first + local) 0) few (local_stores pac o.function m call.running call.frame words to local within few room c)
       (let some = call.locals.count in (omega arith, let lies = call.locals.places local within in omega (arith, lies)))
+
+  -- what is loaded from the place that a temporary has
+  pub load_follows : (words : ℤ) (to at bytes from : ℕ) (signed : Bool) (value : FlatValue) → to < held o.function → at < held o.function → slot o.function m at ≡ from → IsWidth bytes → allowed Read m.memory from bytes ≡ true
+      → StandsFor addresses value (extended (8 * bytes) signed (load bytes m.memory from)) → HasCode m.memory m.pc (code_of o.function words (op.Load to at bytes signed)) → Gives pac addresses o (words_of o.function (op.Load to at bytes signed)) m to value
+  load_follows words to at bytes from signed value few a is width may stands c =
+      gives _ to _ value few (load_stores pac o.function m call.running call.frame words to at bytes signed width (ap (λ p. allowed Read m.memory p bytes) is ∙ may) few a room c)
+      (subst (λ p. StandsFor addresses value (extended (8 * bytes) signed (load bytes m.memory p))) (sym is) stands)
 
   pub const_follows : (words : ℤ) (to value : ℕ) → value < 2 ^ 64 → to < held o.function → HasCode m.memory m.pc (code_of o.function words (op.Const to value))
       → Gives pac addresses o (words_of o.function (op.Const to value)) m to (Number value)

@@ -14,11 +14,18 @@ StandsFor addresses (Number x) word = word ≡ x
 StandsFor addresses (At object offset) word = (object < length addresses) × (word ≡ slice_index addresses object + offset)
 StandsFor addresses (Code name schema) word = ⊥
 
--- what a byte in memory is where flat code has that one; a pointer's are those of its word, the lowest first
+-- A byte of a pointer: that of its word, counted from the lowest.
+pub record IsPart (addresses : Addresses) (pointer : FlatValue) (index byte : ℕ) : Type 0 where
+  pub word : ℕ
+  pub fits : word < 2 ^ 64
+  pub stands : StandsFor addresses pointer word
+  pub same : byte ≡ word / 256 ^ index % 256
+
+-- what a byte in memory is where flat code has that one
 abbrev pub IsByte : Addresses → Byte → ℕ → Type 0
 IsByte addresses Unset byte = Unit {0}
 IsByte addresses (Octet number) byte = byte ≡ number
-IsByte addresses (Part pointer index) byte = (word : ℕ) × StandsFor addresses pointer word × (byte ≡ word / 256 ^ index % 256)
+IsByte addresses (Part pointer index) byte = IsPart addresses pointer index byte
 
 -- these bytes stand in memory from an address on
 unfoldable pub HasBytes : Addresses → List Region → (at : ℕ) → List Byte → Type 0
