@@ -1,4 +1,5 @@
 pub mod Advanced
-pub mod Made
 pub mod Input
+pub mod Loaded
+pub mod Made
 pub mod Unread
