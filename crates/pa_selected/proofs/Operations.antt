@@ -13,19 +13,30 @@ use Rattle.pa_lir.specs.declared.op.UnOp.{UnOp}
 use Rattle.pa_lir.specs.Flow.{place_of_label}
 use Rattle.pa_lir.specs.Operators.{of_numbers, of_number}
 use Rattle.pa_lir.specs.Parts.{held, cost}
-use Rattle.pa_lir.specs.Values.{FlatValue, Number, At, Byte, Object, Objects, extended, bytes_at, value_in}
+use Rattle.pa_lir.specs.Values.{FlatValue, Number, At, Code, Byte, Object, Objects, extended, bytes_at, value_in}
 use Rattle.pa_lir.specs.Meaning.{Open, temp, with_temp, putchar, getchar}
 use Rattle.pa_select.specs.Selectable.{IsInRange}
-use Rattle.pa_select.specs.Selected.{words_of}
+use Rattle.pa_select.specs.Selected.{load_temp, store_temp, operands, words_of}
+use Rattle.pa_select.specs.Computing as code
+use Rattle.pa_select.specs.Constants.{constant}
+use Rattle.pa_select.specs.Accesses.{address}
+use Rattle.pa_frame.specs.Frames.{place_of_local}
+use Rattle.pa_a64.specs.declared.instr.Instr.{Instr}
+use Rattle.pa_lir.specs.declared.function.LirFn.{LirFn}
 use Rattle.pa_select.proofs.Costs.{words_at_most}
 use Rattle.pa_selected.specs.Values.{Addresses, StandsFor, HasBytes, HasObjects}
 use Rattle.pa_selected.specs.Worlds.{World, place_of_op}
 use Rattle.pa_selected.specs.Calls.{IsAt, HasCallFrames}
+use Rattle.pa_selected.proofs.Linked.{some_stored}
+use Rattle.pa_selected.proofs.Storing.{slot}
 use Rattle.pa_selected.proofs.Straight.{runs_on}
 use Rattle.pa_selected.proofs.Branching.{Turns, MovesTo, moved, label_runs, jump_runs, branch_falls, branch_goes}
 use Rattle.pa_selected.proofs.Steps.{Follows, const_runs, bin_runs, un_runs, extend_runs, local_runs}
 use Rattle.pa_selected.proofs.Keeping.{placed_later}
 use Rattle.pa_selected.proofs.Giving.{Ready, Leads, Moves, open_call, function_placed, follows_ready}
+
+some_after : (f : LirFn) (is : List Instr) (instr : Instr) (rest : List Instr) → 1 ≤ length (is ++ instr ∷ rest)
+some_after f is instr rest = omega (arith, length-append is (instr ∷ rest))
 
 module _ (w : World) (addresses : Addresses) (objects : Objects) (o : Open) (os : List Open) (m : Machine) (ready : Ready w addresses objects o os m) where
   -- ---- the call goes on at another operation
@@ -88,3 +99,57 @@ module _ (w : World) (addresses : Addresses) (objects : Objects) (o : Open) (os 
 
   pub jump_moves : (label k : ℕ) → slice_get o.function.ops o.at ≡ Some (op.Jump label) → place_of_label o.function.ops label ≡ Some k → Moves w addresses objects (moved o k) os m 1 1
   jump_moves label k e to = moves_ready k 1 (jump_runs w addresses o m (open_call w addresses objects o os m ready) (function_placed w addresses objects o os m ready) ready.at label k e to)
+
+  word_in_slot : (t : ℕ) (value : FlatValue) → temp o t ≡ Some value → (t < held o.function) × StandsFor addresses value (slot o.function m t)
+  word_in_slot t value e = (open_call w addresses objects o os m ready).temps t value e
+
+  pub zero_falls : (on label : ℕ) → slice_get o.function.ops o.at ≡ Some (op.Branch on label) → temp o on ≡ Some (Number 0) → Moves w addresses objects (moved o (suc o.at)) os m 1 4
+  zero_falls on label e v =
+      let there = word_in_slot on (Number 0) v in
+      moves_ready (suc o.at) 4 (branch_falls w addresses o m (open_call w addresses objects o os m ready) (function_placed w addresses objects o os m ready) ready.at on label e there.0 there.1)
+
+  -- a number that isn't 0, or a place
+  pub other_goes : (on label k : ℕ) (value : FlatValue) → slice_get o.function.ops o.at ≡ Some (op.Branch on label) → temp o on ≡ Some value → (value ≡ Number 0 → ⊥) → place_of_label o.function.ops label ≡ Some k
+      → Moves w addresses objects (moved o k) os m 1 4
+  other_goes on label k value e v other to =
+      let there = word_in_slot on value v in
+      moves_ready k 4 (branch_goes w addresses o m (open_call w addresses objects o os m ready) (function_placed w addresses objects o os m ready) ready.at on label k e there.0 (λ none. not_zero value other (subst (StandsFor addresses value) none there.1)) to)
+    where
+      not_zero : (value : FlatValue) → (value ≡ Number 0 → ⊥) → StandsFor addresses value 0 → ⊥
+      not_zero (Number x) other h = other (ap Number (sym h))
+      not_zero (At object offset) other h = let count = ready.lie.count in let some = ready.lie.some object (omega (arith, h.0, count)) in omega (arith, h.1, some)
+      not_zero (Code name schema) other h = h
+
+  -- ---- a temporary gets a value
+
+  pub const_moves : (to value : ℕ) → value < 2 ^ 64 → slice_get o.function.ops o.at ≡ Some (op.Const to value) → Moves w addresses objects (with_temp to (Number value) o) os m 1 6
+  const_moves to value small e =
+      follows_ready w addresses objects o os m ready (op.Const to value) to (Number value) 6
+      (some_stored o.function (constant 9 value) to) (words_at_most o.function (op.Const to value) tt)
+      (const_runs w addresses o m (open_call w addresses objects o os m ready) (function_placed w addresses objects o os m ready) ready.at to value small e)
+
+  pub bin_moves : (to : ℕ) (operator : BinOp) (left right x y z : ℕ) → slice_get o.function.ops o.at ≡ Some (op.Bin to operator left right) → temp o left ≡ Some (Number x) → temp o right ≡ Some (Number y) → of_numbers operator x y ≡ Some z
+      → Moves w addresses objects (with_temp to (Number z) o) os m 1 8
+  bin_moves to operator left right x y z e l r means =
+      follows_ready w addresses objects o os m ready (op.Bin to operator left right) to (Number z) 8
+      (let behind = some_stored o.function (code.binary operator) to in let all = length-append (operands o.function left right) (code.binary operator ++ store_temp o.function 9 to) in omega (arith, behind, all)) (words_at_most o.function (op.Bin to operator left right) tt)
+      (bin_runs w addresses o m (open_call w addresses objects o os m ready) (function_placed w addresses objects o os m ready) ready.at to operator left right x y z e l r means)
+
+  pub un_moves : (to : ℕ) (operator : UnOp) (from x : ℕ) → slice_get o.function.ops o.at ≡ Some (op.Un to operator from) → temp o from ≡ Some (Number x) → Moves w addresses objects (with_temp to (Number (of_number operator x)) o) os m 1 5
+  un_moves to operator from x e v =
+      follows_ready w addresses objects o os m ready (op.Un to operator from) to (Number (of_number operator x)) 5
+      (some_after o.function (load_temp o.function 9 from) (code.unary operator) (store_temp o.function 9 to)) (words_at_most o.function (op.Un to operator from) tt)
+      (un_runs w addresses o m (open_call w addresses objects o os m ready) (function_placed w addresses objects o os m ready) ready.at to operator from x e v)
+
+  pub extend_moves : (to from bits : ℕ) (signed : Bool) (x : ℕ) → 1 ≤ bits → bits ≤ 64 → slice_get o.function.ops o.at ≡ Some (op.Extend to from bits signed) → temp o from ≡ Some (Number x)
+      → Moves w addresses objects (with_temp to (Number (extended bits signed x)) o) os m 1 5
+  extend_moves to from bits signed x some most e v =
+      follows_ready w addresses objects o os m ready (op.Extend to from bits signed) to (Number (extended bits signed x)) 5
+      (some_after o.function (load_temp o.function 9 from) (code.extended bits signed) (store_temp o.function 9 to)) (words_at_most o.function (op.Extend to from bits signed) (some, most))
+      (extend_runs w addresses o m (open_call w addresses objects o os m ready) (function_placed w addresses objects o os m ready) ready.at to from bits signed x some e v)
+
+  pub local_moves : (to local : ℕ) → local < length o.function.locals → slice_get o.function.ops o.at ≡ Some (op.Local to local) → Moves w addresses objects (with_temp to (At (o.first + local) 0) o) os m 1 4
+  local_moves to local within e =
+      follows_ready w addresses objects o os m ready (op.Local to local) to (At (o.first + local) 0) 4
+      (some_stored o.function (address 9 (place_of_local o.function local)) to) (words_at_most o.function (op.Local to local) within)
+      (local_runs w addresses o m (open_call w addresses objects o os m ready) (function_placed w addresses objects o os m ready) ready.at to local within e)
