@@ -1,5 +1,5 @@
 -- A declaration by number is the one by name.
-use Rattle.std.proofs.Common.{◌≡◌, ℕ, ◌≤◌, ◌<◌, ◌==◌, Bool, true, false, if◌then◌else◌, List, [], ◌∷◌, ◌++◌, map, length, Option, Some, None, Ok, refl, sym, ap, ◌∙◌, arith}
+use Rattle.std.proofs.Common.{◌≡◌, ℕ, ◌≤◌, ◌<◌, ◌==◌, Bool, true, false, List, [], ◌∷◌, ◌++◌, length, Some, None, Ok, refl, sym, ap, ◌∙◌, arith}
 use Rattle.std.specs.Option.{option_map}
 use Rattle.std.proofs.lemmas.List.{length-map, map-append, length-append}
 use Rattle.pa_ctype.specs.Types.{TypeTree}
@@ -8,10 +8,9 @@ use Rattle.pa_blocks.specs.declared.meant.Meant.{Meant}
 use Rattle.pa_blocks.specs.declared.meant.Meant.TheVariants.{Local, Global, Constant, TypeName, Discriminator}
 use Rattle.pa_blocks.specs.Blocks.{Named, Blocks, names_bound}
 use Rattle.pa_blocks.specs.Blocks as by_number
-use Rattle.pa_scope.specs.Answers.{Answer}
 use Rattle.pa_ctype.specs.Layouts.{table_of, fields_of}
 use Rattle.pa_scope.specs.Numbered.{TagNumbers, id_of, meaning_of, block_of, struct_tag_of, scope_by, both_global, repeats, tag_names, IsSoundBy}
-use Rattle.pa_scope.specs.Scope.{Meaning, Scope, in_block, is_file_level, again, declared, tagged}
+use Rattle.pa_scope.specs.Scope.{Scope, in_block, is_file_level, again, declared, tagged}
 use Rattle.pa_scope.proofs.Numbered.{in_block_is, tag_is, tag_names_more, tag_ids_more}
 
 again_is : (m : ℕ → TypeTree) (name : List ℕ) (place : ℕ) (file : Bool) (before means : Meant) (s : Scope) → again name place file (Some (meaning_of m before)) (meaning_of m means) s ≡ repeats m place s (both_global file before means)

@@ -1,18 +1,17 @@
 -- What a name means by its number is what it means by its text.
-use Rattle.std.proofs.Common.{◌≡◌, ℕ, suc, max, ◌≤◌, ◌<◌, ◌==◌, ◌||◌, Bool, true, false, if◌then◌else◌, List, [], ◌∷◌, ◌++◌, map, length, Option, Some, None, refl, sym, ap, ◌∙◌, arith, eq-eqb, eqb-true}
+use Rattle.std.proofs.Common.{◌≡◌, ℕ, suc, max, ◌≤◌, ◌<◌, ◌==◌, ◌||◌, Bool, true, false, if◌then◌else◌, List, [], ◌∷◌, ◌++◌, map, Option, Some, None, refl, sym, ap, ◌∙◌, arith, eq-eqb, eqb-true}
 use Rattle.std.specs.Option.{option_map}
 use Rattle.std.specs.Str.{bytes_eq}
 use Rattle.std.proofs.lemmas.Slice.Eq.{bytes_eq-Decides}
 use Rattle.pa_ctype.specs.Types.{TypeTree}
 use Rattle.pa_ctype.specs.Tables.{AreApart}
-use Rattle.pa_blocks.specs.declared.meant.Meant.{Meant}
 use Rattle.pa_blocks.specs.Blocks.{Named, Blocks, or_else, block_names, around_names, names_bound}
 use Rattle.pa_blocks.specs.Blocks as by_number
-use Rattle.pa_scope.specs.Numbered.{id_of, has_tag, meaning_of, declaration_of, block_of, struct_tag_of, tag_names, tag_ids, enum_names}
-use Rattle.pa_scope.specs.Scope.{Meaning, in_block, in_blocks, tag_in, has_name}
+use Rattle.pa_scope.specs.Numbered.{id_of, has_tag, meaning_of, block_of, struct_tag_of, tag_names, tag_ids, enum_names}
+use Rattle.pa_scope.specs.Scope.{in_block, in_blocks, tag_in, has_name}
 
 -- numbers that stand for different names tell names apart
-test_same : (n : ℕ) (names : ℕ → List ℕ) → AreApart n names → (a b : ℕ) → a < n → b < n → (a == b) ≡ bytes_eq (names a) (names b)
+pub test_same : (n : ℕ) (names : ℕ → List ℕ) → AreApart n names → (a b : ℕ) → a < n → b < n → (a == b) ≡ bytes_eq (names a) (names b)
 test_same n names apart a b h g = by (a == b) refl (bytes_eq (names a) (names b)) refl
   where
     by : (x : Bool) → (a == b) ≡ x → (y : Bool) → bytes_eq (names a) (names b) ≡ y → (a == b) ≡ bytes_eq (names a) (names b)

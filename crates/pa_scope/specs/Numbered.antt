@@ -1,9 +1,11 @@
 -- A scope whose names and types are numbers, and the scope that it is where numbers stand for these names and types.
-use Rattle.std.specs.Prelude.{◌≡◌, ℕ, suc, max, ◌≤◌, nat_eq, Bool, true, false, if◌then◌else◌, List, [], ◌∷◌, length, map, Option, Some, None, Result, Ok, Err}
+use Rattle.std.specs.Prelude.{◌≡◌, ℕ, suc, max, ◌≤◌, nat_eq, Bool, true, if◌then◌else◌, List, [], ◌∷◌, length, map, Option, Some, None, Result, Ok, Err}
 use Rattle.std.specs.List.{list_any}
 use Rattle.std.specs.Map.{lookup}
 use Rattle.pa_num.specs.declared.fault.Fault.{Fault}
 use Rattle.pa_num.specs.declared.fault.Fault.TheVariants.{Refused, Memory}
+use Rattle.pa_ctype.specs.declared.node.Node.{Node}
+use Rattle.pa_ctype.specs.declared.node.Node.TheVariants as node
 use Rattle.pa_ctype.specs.Types.{TypeTree}
 use Rattle.pa_ctype.specs.Nodes.{Fits}
 use Rattle.pa_ctype.specs.Layouts.{table_of}
@@ -87,6 +89,19 @@ abbrev pub Meets : {T : Type 0} → Result T (Fault TypeRule) → Answer Scope �
 Meets (Ok done) answer after = answer ≡ Ok after
 Meets (Err (Refused rule place)) answer after = answer ≡ breaks_at rule place
 Meets (Err Memory) answer after = Unit {0}
+
+-- ---- arrays without a length
+
+-- the type of an object or a function
+abbrev pub object_type : Option Meant → Option ℕ
+object_type (Some (by_number.Local number of)) = Some of
+object_type (Some (by_number.Global of)) = Some of
+object_type means = None
+
+-- what an array without a length holds
+abbrev pub open_element : Node → Option ℕ
+open_element (node.Array of None) = Some of
+open_element other = None
 
 -- ---- a name that the block has already
 

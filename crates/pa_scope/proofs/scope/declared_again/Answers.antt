@@ -1,8 +1,7 @@
-use Rattle.std.proofs.Common.{◌≡◌, Bool, if◌then◌else◌, Ok, sym, ap, ◌∙◌}
+use Rattle.std.proofs.Common.{Bool, if◌then◌else◌, Ok, sym, ap, ◌∙◌}
 use Rattle.pa_scope.specs.declared.rule.TypeRule.TheVariants.{C26}
 use Rattle.pa_scope.specs.Answers.{breaks_at}
 use Rattle.pa_scope.specs.Numbered.{repeats}
-use Rattle.pa_scope.specs.Scope.{Scope}
 use Rattle.pa_scope.proofs.scope.declared_again.Goals as goal
 
 pub returns-then-is_same : goal.returns-then-is_same

@@ -1,8 +1,6 @@
-use Rattle.std.proofs.Common.{◌≡◌, ◌++◌, [], ◌∷◌, ℕ, List, Bool, if◌then◌else◌, Ok, map, refl, sym, ap, ◌∙◌, subst, arith}
+use Rattle.std.proofs.Common.{refl, sym, ◌∙◌, subst, arith}
 use Rattle.std.proofs.lemmas.List.{map-append}
-use Rattle.pa_scope.specs.declared.rule.TypeRule.TheVariants.{C2}
-use Rattle.pa_scope.specs.Answers.{breaks_at}
-use Rattle.pa_scope.specs.Numbered.{TagNumbers, scope_by, IsSoundBy}
+use Rattle.pa_scope.specs.Numbered.{TagNumbers, IsSoundBy}
 use Rattle.pa_scope.proofs.Numbered.{enum_is, enum_names_more}
 use Rattle.pa_scope.proofs.scope.Scope.add_enum_tag.Goals as goal
 

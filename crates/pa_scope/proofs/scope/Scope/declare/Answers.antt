@@ -1,4 +1,4 @@
-use Rattle.std.proofs.Common.{◌≡◌, Bool, sym, ap, ◌∙◌, subst}
+use Rattle.std.proofs.Common.{Bool, sym, ap, ◌∙◌, subst}
 use Rattle.pa_scope.specs.Answers.{Answer}
 use Rattle.pa_scope.specs.Numbered.{Meets, repeats, both_global, scope_by}
 use Rattle.pa_scope.specs.Scope.{Scope}
