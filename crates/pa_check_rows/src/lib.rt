@@ -4,6 +4,8 @@
 #[cfg(test)]
 mod data;
 #[cfg(test)]
+mod library;
+#[cfg(test)]
 mod sample;
 #[cfg(test)]
 mod tests;

@@ -15,7 +15,7 @@ pub enum Want {
     Bad(CheckRule, u64),
 }
 
-/// A program: the words of `__text`, the numbers of those where functions begin, the first of them `_main`, and the answer.
+/// The words of `__text`, the numbers of those where functions begin, the first of them `_main`, and the answer.
 #[derive(Clone, Copy, Debug)]
 pub struct Row {
     pub words: &'static [u32],
@@ -36,9 +36,9 @@ fn marks(alloc: Global, at: &[u32]) -> Result<Marks, AllocError> {
     Ok(marks)
 }
 
-fn image(alloc: Global, row: &Row) -> Result<Image, AllocError> {
+fn image(alloc: Global, role: Role, row: &Row) -> Result<Image, AllocError> {
     Ok(Image {
-        role: Role::Main,
+        role,
         text: Words::from_slice(alloc, row.words)?,
         stubs: Words::new(alloc),
         consts: Bytes::new(alloc),
@@ -64,5 +64,10 @@ pub fn is_answer(image: &Image, want: Want) -> bool {
 
 /// Whether the program is legal, and the checker answers what it is to.
 pub fn answers(alloc: Global, row: &Row) -> Result<bool, AllocError> {
-    Ok(is_answer(&image(alloc, row)?, row.want))
+    Ok(is_answer(&image(alloc, Role::Main, row)?, row.want))
+}
+
+/// The same of a library, which has no start.
+pub fn library_answers(alloc: Global, row: &Row) -> Result<bool, AllocError> {
+    Ok(is_answer(&image(alloc, Role::Library, row)?, row.want))
 }

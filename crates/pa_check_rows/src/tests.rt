@@ -4,8 +4,8 @@ use crate::words::{
     AUTIA_X16_X17, AUTIB_X30_SP, AUTIBSP, AUTIZA_X15, AUTIZA_X16, B_1, B_2, B_3, B_4, B_BACK_1,
     B_BACK_2, BEQ_2, BL_1, BL_2, BL_3, BL_4, BL_BACK_1, BLR_X15, BLR_X16, BLRAA_X0_X1, BLRAAZ_X0,
     BLRAB_X0_X1, BR_X16, BRAA_X16_X17, BRK_0, CBNZ_X0_2, CBZ_X0_1, CBZ_X0_2, MOVZ_X0, MOVZ_X16,
-    MOVZ_X30, NO_ROW, NOP, PACDA_X0_X1, PACGA_X0_X1_X2, PACIA_X16_X17, PACIA_X17_X16, PACIB_X30_SP,
-    PACIBSP, PACIZA_X16, RET_X30, RETAB, STR_X16_SP, SVC_1, SVC_3, XPACI_X0,
+    MOVZ_X30, NO_ROW, NOP, PACDA_X0_X1, PACGA_X0_X1_X2, PACIA_X16_X17, PACIA_X17_X16, PACIB_X0_X1,
+    PACIB_X30_SP, PACIBSP, PACIZA_X16, RET_X30, RETAB, STR_X16_SP, SVC_1, SVC_3, XPACI_X0,
 };
 use pa_check::CheckRule;
 use std::test::Fail;
@@ -592,6 +592,11 @@ fn return_addresses_are_signed_once(rt: HostRuntime) -> Result<(), Fail> {
             want: Want::Bad(CheckRule::K8, 1040),
         },
         Row {
+            words: &[BL_3, SVC_3, BRK_0, PACIBSP, PACIB_X0_X1, RETAB],
+            marks: &[3],
+            want: Want::Bad(CheckRule::K8, 1040),
+        },
+        Row {
             words: &[BL_3, SVC_3, BRK_0, PACIBSP, AUTIB_X30_SP, RETAB],
             marks: &[3],
             want: Want::Bad(CheckRule::K8, 1040),
@@ -610,6 +615,11 @@ fn return_addresses_are_signed_once(rt: HostRuntime) -> Result<(), Fail> {
             words: &[BL_3, SVC_3, BRK_0, PACIBSP, PACIBSP, RETAB, PACIBSP, RETAB],
             marks: &[3, 6],
             want: Want::Bad(CheckRule::K8, 1040),
+        },
+        Row {
+            words: &[BL_3, SVC_3, BRK_0, PACIBSP, RETAB, PACIBSP, AUTIBSP, RETAB],
+            marks: &[3, 5],
+            want: Want::Bad(CheckRule::K8, 1048),
         },
     ];
     for row in &rows {

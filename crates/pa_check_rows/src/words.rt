@@ -28,6 +28,8 @@ pub const PACIZA_X16: u32 = 0xdac1_23f0;
 
 pub const PACIB_X30_SP: u32 = 0xdac1_07fe;
 
+pub const PACIB_X0_X1: u32 = 0xdac1_0420;
+
 pub const AUTIB_X30_SP: u32 = 0xdac1_17fe;
 
 pub const PACDA_X0_X1: u32 = 0xdac1_0820;
