@@ -12,3 +12,4 @@ mod Keeping
 pub mod Giving
 mod Contents
 pub mod Operations
+mod Leaving
