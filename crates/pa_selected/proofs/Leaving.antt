@@ -1,7 +1,7 @@
 -- The end of a function: its registers are read back, the stack pointer is the caller's again, and RETAB authenticates the return
 -- address.
 use Rattle.std.proofs.Common.{◌≡◌, ◌≢◌, ℕ, zero, suc, ◌+◌, ◌-◌, ◌*◌, ◌/◌, ◌%◌, ◌^◌, ◌≤◌, ◌<◌, Bool, true, false, cond, ltb, List, [], ◌∷◌, ◌++◌, length, get_or, set, Option, Some, None, refl, sym, ap, subst, ◌∙◌, arith, length-set, get_or-set_same, get_or-set_other}
-use Rattle.std.specs.Prelude.{pos}
+use Rattle.std.specs.Prelude.{pos, slice_get}
 use Rattle.pa_num.specs.Arithmetic.{add64, sub64}
 use Rattle.pa_pac.specs.declared.key.Key.TheVariants.{IB}
 use Rattle.pa_pac.specs.declared.event.Way.TheVariants as way
@@ -26,13 +26,22 @@ use Rattle.pa_object.proofs.Placed.{HasCode-append}
 use Rattle.pa_object.proofs.Growth.{advance_by-add}
 use Rattle.pa_object.proofs.Steps.{add64_small, sub64_small, ldp_sp_step, retab_step}
 use Rattle.pa_object.proofs.StepsComputing.{sum_immediate_step}
+use Rattle.pa_lir.specs.declared.op.Op.TheVariants as op
 use Rattle.pa_lir.specs.declared.function.LirFn.{LirFn}
-use Rattle.pa_frame.specs.Frames.{size_of_frame}
+use Rattle.pa_lir.specs.Parts.{held}
+use Rattle.pa_lir.specs.Meaning.{Open}
+use Rattle.pa_a64.specs.declared.instr.LoadStoreOp.TheVariants.{Ldr}
+use Rattle.pa_frame.specs.Frames.{place_of_temp, size_of_frame}
 use Rattle.pa_select.specs.Accesses.{moved_by}
-use Rattle.pa_select.specs.Selected.{epilogue}
-use Rattle.pa_select.proofs.Costs.{length-moved_by}
-use Rattle.pa_selected.specs.Calls.{IsRunning, HasFrameAt}
-use Rattle.pa_selected.proofs.Straight.{one}
+use Rattle.pa_select.specs.Selected.{load_temp, epilogue}
+use Rattle.pa_select.proofs.Costs.{length-access, length-moved_by}
+use Rattle.pa_selected.specs.Calls.{IsRunning, HasFrameAt, IsOpen, IsAt}
+use Rattle.pa_selected.specs.Values.{Addresses}
+use Rattle.pa_selected.specs.Worlds.{World, IsPlaced}
+use Rattle.pa_selected.proofs.Straight.{Goes, one, fine_later, code_later}
+use Rattle.pa_selected.proofs.Slots.{frame_later, loads_temp}
+use Rattle.pa_selected.proofs.Storing.{slot}
+use Rattle.pa_selected.proofs.Steps.{code_of_op, room_at}
 
 -- ---- the stack pointer moves
 
@@ -199,3 +208,77 @@ module _ (code : Code) (f : LirFn) (m : Machine) (running : IsRunning m) (frame 
         log = ap (λ p. record { when = Step k.count; event = event.Land way.Return back } ∷ record { when = Step k.count; event = event.Take IB p back (is_known k.log IB k.sp back) } ∷ k.log) s.sp
             ∙ ap (λ l. record { when = Step k.count; event = event.Land way.Return back } ∷ record { when = Step k.count; event = event.Take IB (m.sp + size) back (is_known k.log IB k.sp back) } ∷ l) s.log;
       }
+
+-- ---- the operation
+
+-- behind straight code that leaves memory and makes x0
+left_then : (code : Code) (n : ℕ) (m middle : Machine) (touched : ℕ → Bool) (size back least most x0 : ℕ) → Goes code n m middle m.memory touched → Left code middle size back least most x0 → Left code m size back least (n + most) x0
+left_then code n m middle touched size back least most x0 g h = record {
+  later = h.later;
+  number = n + h.number;
+  some = omega (arith, h.some);
+  few = omega (arith, h.few);
+  runs = advance_by-add code [] n h.number m ∙ (ap (advance_by code [] h.number) g.runs ∙ h.runs);
+  pc = h.pc;
+  count = omega (arith, g.count, h.count);
+  sp = h.sp ∙ ap (λ s. s + size) g.sp;
+  result = h.result;
+  memory = h.memory ∙ g.memory;
+  input = h.input ∙ g.input;
+  output = h.output ∙ g.output;
+  ended = h.ended;
+  taken = h.taken;
+  landed = h.landed;
+  known = h.known;
+  log = h.log ∙ (ap (λ s. record { when = h.landed; event = event.Land way.Return back } ∷ record { when = h.taken; event = event.Take IB (s + size) back h.known } ∷ middle.log) g.sp
+      ∙ ap (λ l. record { when = h.landed; event = event.Land way.Return back } ∷ record { when = h.taken; event = event.Take IB (m.sp + size) back h.known } ∷ l) g.log);
+}
+
+fewer : (code : Code) (m : Machine) (size back least most more x0 : ℕ) → most ≤ more → Left code m size back least most x0 → Left code m size back least more x0
+fewer code m size back least most more x0 le h = record {
+  later = h.later;
+  number = h.number;
+  some = h.some;
+  few = omega (arith, h.few, le);
+  runs = h.runs;
+  pc = h.pc;
+  count = h.count;
+  sp = h.sp;
+  result = h.result;
+  memory = h.memory;
+  input = h.input;
+  output = h.output;
+  ended = h.ended;
+  taken = h.taken;
+  landed = h.landed;
+  known = h.known;
+  log = h.log;
+}
+
+module _ (w : World) (addresses : Addresses) (o : Open) (m : Machine) (call : IsOpen addresses o m) (placed : IsPlaced w m.memory o.function) (at : IsAt w o m)
+    (back : ℕ) (saved : load 8 m.memory (m.sp + 8) ≡ sign w.pac IB (m.sp + size_of_frame o.function) back) (is_canonical : canonical back ≡ back) where
+  -- without a result
+  pub none_returns : slice_get o.function.ops o.at ≡ Some (op.Return None) → Left w.pac m (size_of_frame o.function) back 1 6 (register 0 m)
+  none_returns e =
+      fewer w.pac m _ back 1 4 6 _ (omega arith)
+      (epilogue_leaves w.pac o.function m call.running call.frame (omega (arith, room_at w o m placed at)) back saved is_canonical (code_of_op w o m (op.Return None) placed at e))
+
+  -- with that of a temporary
+  pub some_returns : (t : ℕ) → t < held o.function → slice_get o.function.ops o.at ≡ Some (op.Return (Some t)) → Left w.pac m (size_of_frame o.function) back 1 6 (slot o.function m t)
+  some_returns t few e =
+      let f = o.function in
+      let low = room_at w o m placed at in
+      let load_x0 = load_temp f 0 t in
+      let parts = HasCode-append m.memory m.pc load_x0 (epilogue f) (code_of_op w o m (op.Return (Some t)) placed at e) in
+      let made = loads_temp w.pac f m call.running call.frame (omega (arith, low)) 0 t (omega arith) few parts.0 in
+      let k = made.later in
+      let g = made.goes in
+      let short = length-access Ldr 0 (place_of_temp f t) in
+      let running = fine_later w.pac _ m k m.memory _ call.running g in
+      let frame = frame_later w.pac f _ m k m.memory _ call.frame g in
+      let still : load 8 k.memory (k.sp + 8) ≡ sign w.pac IB (k.sp + size_of_frame f) back =
+      ap (λ x. load 8 x (k.sp + 8)) g.memory ∙ (ap (λ s. load 8 m.memory (s + 8)) g.sp ∙ (saved ∙ ap (λ s. sign w.pac IB (s + size_of_frame f) back) (sym g.sp))) in
+      let rest = code_later w.pac _ m k m.memory _ (epilogue f) call.running g parts.1 in
+      let left = epilogue_leaves w.pac f k running frame (omega (arith, g.pc, short, low)) back still is_canonical rest in
+      fewer w.pac m _ back 1 (length load_x0 + 4) 6 _ (omega (arith, short))
+      (left_then w.pac (length load_x0) m k _ _ back 1 4 (slot f m t) g (subst (Left w.pac k (size_of_frame f) back 1 4) made.value left))

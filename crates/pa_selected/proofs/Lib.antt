@@ -12,4 +12,4 @@ mod Keeping
 pub mod Giving
 mod Contents
 pub mod Operations
-mod Leaving
+pub mod Leaving
