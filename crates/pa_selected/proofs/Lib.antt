@@ -13,3 +13,4 @@ pub mod Giving
 mod Contents
 pub mod Operations
 pub mod Leaving
+pub mod Calling
