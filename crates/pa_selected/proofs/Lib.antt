@@ -14,3 +14,4 @@ mod Contents
 pub mod Operations
 pub mod Leaving
 pub mod Calling
+pub mod Comings
