@@ -12,3 +12,6 @@ mod Keeping
 pub mod Giving
 mod Contents
 pub mod Operations
+pub mod Leaving
+pub mod Calling
+pub mod Comings
