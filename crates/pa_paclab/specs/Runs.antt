@@ -15,7 +15,6 @@ use Rattle.pa_script.specs.declared.rule.ScriptRule.TheVariants.{P4}
 use Rattle.pa_script.specs.Rules.{first_unfit}
 use Rattle.pa_straight_image.specs.Image.{image_of}
 use Rattle.pa_straight_image.specs.Shows.{Runs}
-use Rattle.pa_engine.specs.Report.{report_text}
 use Rattle.pa_words.specs.declared.command.RunOptions.{RunOptions}
 use Rattle.pa_words.specs.declared.names.PacName.{PacName}
 use Rattle.pa_words.specs.declared.names.PacName.TheVariants.{Host, Sip, Zero, Fold}
@@ -48,9 +47,6 @@ state_of code options task = loaded code (image_of task.program) pal options.sli
 abbrev pub run_of : Code → RunOptions → Task → Machine
 run_of code options task =
     run code task.script options.steps (begun_in (state_of code options task) task.input)
-
-abbrev pub report_of : RunOptions → Machine → List ℕ
-report_of options m = report_text m.output (end_of m) m.log (is_short options.log)
 
 -- each item of the script fits the memory
 abbrev pub Fits : Code → RunOptions → Task → Type 0
