@@ -99,6 +99,10 @@ pub record IsLeftBy (m : Machine) (ran : Ran) : Type 0 where
   pub end_is : ran.end ≡ end_of m
   pub log : ran.log.entries ≡ m.log
 
+-- what a run leaves that begins in a loaded state
+abbrev pub Leaves : Code → Script → (steps : ℕ) → State → (input : List ℕ) → Ran → Type 0
+Leaves code script steps state input ran = IsLeftBy (run_of code script steps state input) ran
+
 -- what the run of an accepted image leaves, in which control flow is kept
 pub record IsRan (r : ImageRun) (ran : Ran) : Type 0 where
   pub image : Image

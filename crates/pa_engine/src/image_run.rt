@@ -13,7 +13,7 @@ ghost use Rattle.pa_check.specs.Windowed as windowed;
 ghost use Rattle.pa_load.specs.Loaded.{first_missing, state_of};
 ghost use Rattle.pa_script.specs.Rules.{first_unfit};
 ghost use Rattle.pa_engine.specs.declared.fault.EngineFault.TheVariants as fault;
-ghost use Rattle.pa_engine.specs.ImageRun.{ImageRun, unread, unwindowed, no_program, unexported, unfit, refusal_of, Answers, DoesNotRefuse, IsBegun, IsLeftBy, IsAnswer, run_of};
+ghost use Rattle.pa_engine.specs.ImageRun.{ImageRun, unread, unwindowed, no_program, unexported, unfit, refusal_of, Answers, DoesNotRefuse, IsBegun, Leaves, IsAnswer};
 
 use crate::fault::{EngineFault, Refusal, Rule};
 use crate::reports::Ran;
@@ -166,7 +166,7 @@ fn run_loaded<P: Pac>(
     p: &P,
 ) -> Result<Ran, Memory>
     requires { all_fit script.now loaded.space ≡ true }
-    ensures { IfOk result (IsLeftBy (run_of (P.code p.now) script.now steps (state_of loaded) input.now)) }
+    ensures { IfOk result (Leaves (P.code p.now) script.now steps (state_of loaded) input.now) }
 {
     let mut machine = Machine::new(alloc, loaded, input, p)?;
     let end = machine.run(script.as_slice(), steps)?;
