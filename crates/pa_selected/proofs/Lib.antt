@@ -15,3 +15,5 @@ pub mod Operations
 pub mod Leaving
 pub mod Calling
 pub mod Comings
+pub mod Entering
+pub mod Loading
