@@ -17,3 +17,5 @@ pub mod Calling
 pub mod Comings
 pub mod Entering
 pub mod Loading
+mod Changing
+mod Stores

@@ -68,13 +68,13 @@ module _ (pac : Code) (f : LirFn) (m : Machine) (running : IsRunning m) (frame :
       }
 
   -- x9 and x10 are the operands
-  record Operands (left right : ℕ) : Type 0 where
-    later : Machine
-    goes : Goes pac (length (operands f left right)) m later m.memory scratch
-    is_left : register 9 later ≡ slot f m left
-    is_right : register 10 later ≡ slot f m right
+  pub record Operands (left right : ℕ) : Type 0 where
+    pub later : Machine
+    pub goes : Goes pac (length (operands f left right)) m later m.memory scratch
+    pub is_left : register 9 later ≡ slot f m left
+    pub is_right : register 10 later ≡ slot f m right
 
-  has_operands : (left right : ℕ) → left < held f → right < held f → m.pc + 16 < 2 ^ 64 → HasCode m.memory m.pc (operands f left right) → Operands left right
+  pub has_operands : (left right : ℕ) → left < held f → right < held f → m.pc + 16 < 2 ^ 64 → HasCode m.memory m.pc (operands f left right) → Operands left right
   has_operands left right a b room c =
       let parts = HasCode-append m.memory m.pc (load_temp f 9 left) (load_temp f 10 right) c in
       let one = loads_temp pac f m running frame (omega arith) 9 left (omega arith) a parts.0 in
