@@ -2,6 +2,8 @@
 
 use crate::world::{MOST, call, shelf, sink, source};
 use pa_paclab::{Exit, Refusal, Rule};
+use std::alloc::Global;
+use std::process::Abort;
 use std::test::Fail;
 
 /// A run that reads three files, and one that reads the source.
@@ -90,10 +92,49 @@ const DONE: &str = "run hello.c --log short";
 
 const REFUSED: &str = "run octal.c";
 
+/// What is out of a text once this call of the sink failed, and the answer.
+fn assert_cut(
+    rt: &impl Abort,
+    alloc: Global,
+    line: &str,
+    failing: u64,
+    wanted: Exit,
+    text: &[u8],
+) -> Result<(), Fail> {
+    let mut input = source(alloc, 0, 0)?;
+    let mut out = sink(alloc, failing)?;
+    let answer = call(
+        alloc,
+        line,
+        &mut shelf(alloc, line, 0)?,
+        &mut input,
+        &mut out,
+    )?;
+    let reached = out.calls >= failing;
+    let cut = if wanted == Exit::Done {
+        Exit::WriteFault
+    } else {
+        wanted
+    };
+    assert_eq!(rt; answer, if reached { cut } else { wanted });
+    assert!(rt; text.starts_with(out.written.as_slice()));
+    assert_eq!(rt; out.written.len() < text.len(), reached);
+    if reached {
+        assert!(rt; out.written.len() as u64 <= failing.saturating_sub(1).saturating_mul(4));
+    }
+    Ok(())
+}
+
 #[test]
 fn a_sink_fails_at_each_call(rt: HostRuntime) -> Result<(), Fail> {
     let alloc = rt.alloc();
-    for line in [DONE, "disc cb", REFUSED, "run"] {
+    let rows: [(&str, &[u64]); 4] = [
+        (DONE, &[1, 2, 9, 20]),
+        ("disc cb", &[1, 2, 3, 4]),
+        (REFUSED, &[1, 2, 3, 4, 5]),
+        ("run", &[1, 2, 3, 4]),
+    ];
+    for (line, calls) in rows {
         let mut whole = sink(alloc, 0)?;
         let mut input = source(alloc, 0, 0)?;
         let wanted = call(
@@ -103,29 +144,8 @@ fn a_sink_fails_at_each_call(rt: HostRuntime) -> Result<(), Fail> {
             &mut input,
             &mut whole,
         )?;
-        let text = whole.written.as_slice();
-        let cut = if wanted == Exit::Done {
-            Exit::WriteFault
-        } else {
-            wanted
-        };
-        for failing in 1..20 {
-            let mut out = sink(alloc, failing)?;
-            let mut input = source(alloc, 0, 0)?;
-            let answer = call(
-                alloc,
-                line,
-                &mut shelf(alloc, line, 0)?,
-                &mut input,
-                &mut out,
-            )?;
-            let reached = out.calls >= failing;
-            assert_eq!(rt; answer, if reached { cut } else { wanted });
-            assert!(rt; text.starts_with(out.written.as_slice()));
-            assert_eq!(rt; out.written.len() < text.len(), reached);
-            if reached {
-                assert!(rt; out.written.len() as u64 <= 4 * (failing - 1));
-            }
+        for failing in calls {
+            assert_cut(&rt, alloc, line, *failing, wanted, whole.written.as_slice())?;
         }
     }
     Ok(())

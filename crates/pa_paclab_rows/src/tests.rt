@@ -124,6 +124,23 @@ fn words_that_are_no_command(rt: HostRuntime) -> Result<(), Fail> {
 }
 
 #[test]
+fn no_word_at_all(rt: HostRuntime) -> Result<(), Fail> {
+    let alloc = rt.alloc();
+    let mut out = sink(alloc, 0)?;
+    let answer = paclab(
+        alloc,
+        &Vec::new(alloc),
+        &mut shelf(alloc, "", 0)?,
+        &mut source(alloc, 0, 0)?,
+        &mut out,
+        &FoldPac,
+    );
+    assert_eq!(rt; answer, Exit::Usage(UseFault::U1));
+    assert_eq!(rt; out.written.as_slice(), b"usage U1\n".as_slice());
+    Ok(())
+}
+
+#[test]
 fn commands_that_are_not_built(rt: HostRuntime) -> Result<(), Fail> {
     let exit = refused(Rule::N1, 0, 0);
     let rows: [Row; 6] = [
@@ -148,11 +165,18 @@ fn discriminators(rt: HostRuntime) -> Result<(), Fail> {
 }
 
 #[test]
-fn a_run_and_its_options(rt: HostRuntime) -> Result<(), Fail> {
-    let rows: [Row; 16] = [
+fn a_run_prints_its_report(rt: HostRuntime) -> Result<(), Fail> {
+    let rows: [Row; 3] = [
         ("run hello.c", Exit::Done, REPORT),
         ("run --log full -- --hello.c", Exit::Done, REPORT),
         ("run --log short hello.c", Exit::Done, SHORT),
+    ];
+    assert_answers(&rt, rt.alloc(), &rows)
+}
+
+#[test]
+fn a_run_ends_at_its_bound(rt: HostRuntime) -> Result<(), Fail> {
+    let rows: [Row; 3] = [
         (
             "run hello.c --log short --steps 29",
             Exit::Done,
@@ -164,9 +188,15 @@ fn a_run_and_its_options(rt: HostRuntime) -> Result<(), Fail> {
             Exit::Done,
             b"output 0\n\nend bound\nsigns 1 takes 0 lands 0 unsigned 0\n",
         ),
-        ("run hello.c --log short --slide 65535", Exit::Done, SHORT),
+    ];
+    assert_answers(&rt, rt.alloc(), &rows)
+}
+
+#[test]
+fn a_program_prints_the_same_under_each_option(rt: HostRuntime) -> Result<(), Fail> {
+    let rows: [Row; 6] = [
         (
-            "run hello.c --log short --pac zero --seed 7",
+            "run hello.c --log short --slide 65535 --pac zero --seed 7",
             Exit::Done,
             SHORT,
         ),
@@ -174,6 +204,18 @@ fn a_run_and_its_options(rt: HostRuntime) -> Result<(), Fail> {
         ("run hello.c --log short --pac fold", Exit::Done, SHORT),
         ("run hello.c --log short --input in", Exit::Done, SHORT),
         ("run hello.c --log short --input limit", Exit::Done, SHORT),
+        (
+            "run hello.c --log short --input --hello.c",
+            Exit::Done,
+            SHORT,
+        ),
+    ];
+    assert_answers(&rt, rt.alloc(), &rows)
+}
+
+#[test]
+fn a_run_beside_a_script(rt: HostRuntime) -> Result<(), Fail> {
+    let rows: [Row; 4] = [
         ("run hello.c --log short --script empty", Exit::Done, SHORT),
         (
             "run hello.c --log short --script return",
@@ -238,7 +280,7 @@ fn where_and_under_what_a_run_signs(rt: HostRuntime) -> Result<(), Fail> {
 
 #[test]
 fn refusals_in_their_order(rt: HostRuntime) -> Result<(), Fail> {
-    let rows: [Row; 17] = [
+    let rows: [Row; 18] = [
         ("run absent.c", Exit::ReadFault(1), b"read fault 1\n"),
         (
             "run - --input absent --script absent",
@@ -305,6 +347,11 @@ fn refusals_in_their_order(rt: HostRuntime) -> Result<(), Fail> {
             "run hello.c --script steps",
             script(ScriptRule::P2, 2),
             b"refused P2 66 2\n",
+        ),
+        (
+            "run hello.c --script lines",
+            script(ScriptRule::P3, 65_537),
+            b"refused P3 66 65537\n",
         ),
         (
             "run hello.c --script text",

@@ -45,8 +45,12 @@ const SMALL: [(&[u8], &[u8]); 12] = [
     (b"line", b"\n"),
 ];
 
-/// Files of so many blanks.
-const LARGE: [(&[u8], usize); 2] = [(b"limit", MOST), (b"long", MOST + 1)];
+/// Files of a text so many times.
+const LARGE: [(&[u8], &[u8], usize); 3] = [
+    (b"limit", b" ", MOST),
+    (b"long", b" ", MOST + 1),
+    (b"lines", b"0 write 0x0 00\n", 65_537),
+];
 
 pub fn words(alloc: Global, line: &str) -> Result<Vec<String>, AllocError> {
     let mut words = Vec::new(alloc);
@@ -61,16 +65,25 @@ fn file(alloc: Global, name: &[u8], bytes: Bytes) -> Result<MemFile, AllocError>
     Ok(MemFile::new(Name::from_slice(alloc, name)?, bytes))
 }
 
+/// A text so many times.
+fn times(alloc: Global, text: &[u8], count: usize) -> Result<Vec<u8>, AllocError> {
+    let mut bytes = Vec::new(alloc);
+    for _ in 0..count {
+        bytes.extend_from_slice(text)?;
+    }
+    Ok(bytes)
+}
+
 /// The small files, and those of the large ones that the words of a line name.
 pub fn files(alloc: Global, line: &str) -> Result<MemFiles, AllocError> {
     let mut files = MemFiles::new(alloc);
     for (name, bytes) in SMALL {
         files.push(file(alloc, name, Bytes::from_slice(alloc, bytes)?)?)?;
     }
-    for (name, count) in LARGE {
+    for (name, text, count) in LARGE {
         if line.split(' ').any(|word| word.as_bytes() == name) {
-            let blanks = vec![in alloc; b' '; count]?;
-            files.push(file(alloc, name, Bytes::from_vec(blanks))?)?;
+            let bytes = times(alloc, text, count)?;
+            files.push(file(alloc, name, Bytes::from_vec(bytes))?)?;
         }
     }
     Ok(files)
