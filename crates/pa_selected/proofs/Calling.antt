@@ -1,18 +1,16 @@
 -- A direct call: its arguments go into the registers from x0 on, and BL links the place behind it and goes to the function.
-use Rattle.std.proofs.Common.{◌≡◌, ◌≢◌, ℕ, zero, suc, ◌+◌, ◌*◌, ◌%◌, ◌^◌, ◌≤◌, ◌<◌, Bool, true, false, cond, eqb, leb, List, [], ◌∷◌, ◌++◌, length, get_or, set, Option, Some, None, refl, sym, ap, subst, ◌∙◌, arith, length-set, get_or-set_same, get_or-set_other}
+use Rattle.std.proofs.Common.{◌≡◌, ℕ, suc, ◌+◌, ◌*◌, ◌%◌, ◌^◌, ◌≤◌, ◌<◌, Bool, false, eqb, leb, List, [], ◌∷◌, length, get_or, set, Option, Some, None, refl, sym, ap, subst, ◌∙◌, arith, get_or-set_same, get_or-set_other}
 use Rattle.std.specs.Prelude.{◌||◌, slice_get, unwrap_or}
 use Rattle.std.proofs.lemmas.Bool.{ne_eqb, lt-leb, leb-false}
 use Rattle.std.proofs.lemmas.List.{length-append}
 use Rattle.pa_num.specs.Arithmetic.{add64, scaled64}
 use Rattle.pa_pac.specs.Signing.{Code}
-use Rattle.pa_a64.specs.declared.instr.Instr.TheVariants as i
-use Rattle.pa_a64.specs.declared.instr.BranchOp.TheVariants.{Bl}
 use Rattle.pa_a64.specs.declared.instr.LoadStoreOp.TheVariants.{Ldr}
-use Rattle.pa_mem.specs.Memory.{Region, load}
+use Rattle.pa_mem.specs.Memory.{load}
 use Rattle.pa_object.specs.Filled.{words_between}
 use Rattle.pa_object.specs.Machine.{Machine, register}
 use Rattle.pa_object.specs.Placed.{HasCode}
-use Rattle.pa_object.specs.Run.{step, advance_by}
+use Rattle.pa_object.specs.Run.{advance_by}
 use Rattle.pa_object.proofs.Filled.{call_reaches}
 use Rattle.pa_object.proofs.Placed.{HasCode-append}
 use Rattle.pa_object.proofs.Growth.{advance_by-add}

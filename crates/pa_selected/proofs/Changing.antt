@@ -1,16 +1,16 @@
 -- A store into a living object through a place: the whole relation holds behind it, with the object's new bytes.
-use Rattle.std.proofs.Common.{◌≡◌, ◌≢◌, ◌⊎◌, inl, inr, ℕ, zero, suc, ◌+◌, ◌-◌, ◌*◌, ◌/◌, ◌%◌, ◌^◌, ◌≤◌, ◌<◌, Bool, true, false, cond, eqb, leb, List, [], ◌∷◌, ◌++◌, length, take, drop, set, Option, Some, None, refl, sym, ap, subst, ◌∙◌, arith, length-set}
-use Rattle.std.specs.Prelude.{pos, slice_get, slice_index, unwrap_or, not, ◌&&◌}
+use Rattle.std.proofs.Common.{◌≡◌, ◌≢◌, ◌⊎◌, inl, inr, ℕ, zero, suc, ◌+◌, ◌/◌, ◌%◌, ◌^◌, ◌≤◌, ◌<◌, Bool, true, false, cond, eqb, List, [], ◌∷◌, ◌++◌, length, take, drop, set, Some, None, refl, sym, ap, subst, ◌∙◌, arith, length-set}
+use Rattle.std.specs.Prelude.{slice_get, slice_index, unwrap_or}
 use Rattle.std.proofs.lemmas.List.{length-append, length-take-le, length-drop}
-use Rattle.std.proofs.lemmas.Bool.{and_parts, cases_lt, eqb-true, leb-true}
+use Rattle.std.proofs.lemmas.Bool.{cases_lt, eqb-true}
 use Rattle.pa_pac.specs.Signing as signing
-use Rattle.pa_a64.specs.declared.instr.LoadStoreOp.TheVariants.{Ldr, Str}
+use Rattle.pa_a64.specs.declared.instr.LoadStoreOp.TheVariants.{Str}
 use Rattle.pa_a64.specs.declared.instr.LoadStoreWordOp.TheVariants.{Strw}
 use Rattle.pa_a64.specs.declared.instr.LoadStoreHalfOp.TheVariants.{Strh}
 use Rattle.pa_a64.specs.declared.instr.LoadStoreByteOp.TheVariants.{Strb}
 use Rattle.pa_num.specs.Arithmetic.{add64}
 use Rattle.pa_mem.specs.Memory.{Region, Read, Write, allowed, load, store, byte_at}
-use Rattle.pa_mem.proofs.Bytes.{allowed-part, allowed-covered}
+use Rattle.pa_mem.proofs.Bytes.{allowed-covered}
 use Rattle.pa_mem.proofs.Ranges.{load-store-other, allowed-store, byte_at-store-same}
 use Rattle.pa_object.specs.Machine.{Machine, register, next}
 use Rattle.pa_object.specs.Effects.{with_memory}
@@ -19,14 +19,14 @@ use Rattle.pa_object.specs.Run.{step}
 use Rattle.pa_object.proofs.Steps.{add64_small}
 use Rattle.pa_object.proofs.StepsMemory.{load_store_step, load_store_word_step, load_store_half_step, load_store_byte_step}
 use Rattle.pa_lir.specs.WellFormed.{IsWidth}
-use Rattle.pa_lir.specs.Values.{FlatValue, Number, At, Code, Byte, Object, Objects, octets, parts, whole, bytes_of, overwritten, written}
+use Rattle.pa_lir.specs.Values.{FlatValue, Number, At, Code, Byte, Object, Objects, octets, parts, bytes_of, overwritten}
 use Rattle.pa_lir.specs.Meaning.{Open}
 use Rattle.pa_lir.specs.Parts.{held}
 use Rattle.pa_frame.specs.Frames.{place_of_temp, size_of_frame}
 use Rattle.pa_select.specs.Computing as code
 use Rattle.pa_selected.specs.Values.{Addresses, StandsFor, HasBytes, HasObjects}
 use Rattle.pa_selected.specs.Worlds.{World, IsOff}
-use Rattle.pa_selected.specs.Calls.{IsRunning, IsOffWords, HasCallFrames}
+use Rattle.pa_selected.specs.Calls.{IsRunning, HasCallFrames}
 use Rattle.pa_selected.proofs.Bytes.{HasBytes-stored, HasBytes-drop, HasBytes-take, HasBytes-append}
 use Rattle.pa_selected.proofs.Contents.{octets_stored, parts_stored}
 use Rattle.pa_selected.proofs.Straight.{Goes, puts}
@@ -108,6 +108,26 @@ value_stored addresses memory n to word value new fits stands e may = go value s
         }
     go (At o offset) stands e = pointer_bytes (At o offset) stands (eqb n 8) refl e
     go (Code name schema) stands e = absurd stands
+
+-- it has so many
+pub size_stored : (n : ℕ) (value : FlatValue) (new : List Byte) → bytes_of n value ≡ Some new → length new ≡ n
+size_stored n value new e = go value e
+  where
+    pointer_size : (pointer : FlatValue) (b : Bool) → eqb n 8 ≡ b → cond b (Some (parts 8 pointer)) None ≡ Some new → length new ≡ n
+    pointer_size pointer true q e = ap length (sym (some_bytes (parts 8 pointer) new e)) ∙ (length-parts 8 pointer ∙ sym (eqb-true n 8 q))
+    pointer_size pointer false q e = cc
+
+    go : (value : FlatValue) → bytes_of n value ≡ Some new → length new ≡ n
+    go (Number x) e = ap length (sym (some_bytes (octets n x) new e)) ∙ length-octets n x
+    go (At o offset) e = pointer_size (At o offset) (eqb n 8) refl e
+    go (Code name schema) e = pointer_size (Code name schema) (eqb n 8) refl e
+
+-- and the object keeps its size
+pub size_overwritten : (old : List Byte) (offset : ℕ) (new : List Byte) → offset + length new ≤ length old → length (overwritten old offset new) ≡ length old
+size_overwritten old offset new inside =
+    let front = length-take-le offset old (omega arith) in
+    let rest = length-drop (offset + length new) old in
+    omega (arith, length-append (take offset old) (new ++ drop (offset + length new) old), length-append new (drop (offset + length new) old), front, rest)
 
 -- over those of the object
 pub overwritten_lie : (addresses : Addresses) (memory : List Region) (n first offset word : ℕ) (old new : List Byte) → offset + n ≤ length old → HasBytes addresses memory first old → Stored addresses (store n memory (first + offset) word) n (first + offset) new
@@ -192,7 +212,7 @@ module _ (addresses : Addresses) (objects : Objects) (memory : List Region) (lie
   -- ---- the frames
 
   -- a word of a frame stays
-  word_stays : (low high at : ℕ) → IsOff (slice_index addresses object) (length target.bytes) low high → low ≤ at → at + 8 ≤ high → load 8 (store n memory to word) at ≡ load 8 memory at
+  pub word_stays : (low high at : ℕ) → IsOff (slice_index addresses object) (length target.bytes) low high → low ≤ at → at + 8 ≤ high → load 8 (store n memory to word) at ≡ load 8 memory at
   word_stays low high at off one two = load-store-other 8 n memory to word at (λ below. go below (cases_lt (slice_index addresses object) high))
     where
       go : at < to + n → ((slice_index addresses object < high) ⊎ (high ≤ slice_index addresses object)) → at + 8 ≤ to

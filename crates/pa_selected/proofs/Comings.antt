@@ -1,17 +1,17 @@
 -- A call that is made: the whole relation holds before the first instruction of its function.
-use Rattle.std.proofs.Common.{◌≡◌, ℕ, suc, ◌+◌, ◌*◌, ◌≤◌, ◌<◌, List, [], ◌∷◌, length, Option, Some, None, refl, sym, ap, subst, ◌∙◌, arith}
-use Rattle.std.specs.Prelude.{slice_get, slice_index}
+use Rattle.std.proofs.Common.{◌≡◌, ℕ, ◌≤◌, List, ◌∷◌, length, Option, Some, sym, ap, subst, arith}
+use Rattle.std.specs.Prelude.{slice_get}
 use Rattle.pa_mem.specs.Memory.{load}
-use Rattle.pa_object.specs.Machine.{Machine, register}
+use Rattle.pa_object.specs.Machine.{Machine}
 use Rattle.pa_lir.specs.declared.op.Op.TheVariants as op
-use Rattle.pa_lir.specs.Values.{FlatValue, Object, Objects}
+use Rattle.pa_lir.specs.Values.{FlatValue, Objects}
 use Rattle.pa_lir.specs.Meaning.{Open, Coming, temps_of, putchar, getchar}
 use Rattle.pa_selected.specs.Values.{Addresses, Living, HasObjects}
 use Rattle.pa_selected.specs.Worlds.{World, HasCodeAndStack}
-use Rattle.pa_selected.specs.Calls.{IsRunning, HasCallFrames, IsComing, IsWaiting}
+use Rattle.pa_selected.specs.Calls.{IsRunning, HasCallFrames, IsComing}
 use Rattle.pa_selected.specs.Runs.{IsOffSlots}
 use Rattle.pa_selected.proofs.Straight.{runs_on}
-use Rattle.pa_selected.proofs.Calling.{Called, call_runs, values_held, values_loaded}
+use Rattle.pa_selected.proofs.Calling.{call_runs, values_held, values_loaded}
 use Rattle.pa_selected.proofs.Keeping.{placed_later}
 use Rattle.pa_selected.proofs.Giving.{Ready, Leads, open_call, function_placed}
 

@@ -1,12 +1,12 @@
 -- What is loaded from bytes of flat code in memory, and the bytes that are stored.
-use Rattle.std.proofs.Common.{◌≡◌, ℕ, zero, suc, ◌+◌, ◌-◌, ◌*◌, ◌/◌, ◌%◌, ◌^◌, ◌≤◌, ◌<◌, Bool, true, false, cond, eqb, List, [], ◌∷◌, ◌++◌, length, take, drop, Option, Some, None, refl, sym, ap, subst, ◌∙◌, arith}
+use Rattle.std.proofs.Common.{◌≡◌, ℕ, zero, suc, ◌+◌, ◌-◌, ◌*◌, ◌/◌, ◌%◌, ◌^◌, ◌≤◌, ◌<◌, Bool, true, false, cond, eqb, List, [], ◌∷◌, length, Option, Some, None, refl, sym, ap, subst, ◌∙◌, arith}
 use Rattle.std.specs.Prelude.{◌&&◌, unwrap_or, option_and_then}
 use Rattle.std.proofs.lemmas.Bool.{and_parts, eqb-true}
 use Rattle.std.proofs.Math.Nat.{div-div-eq-div-mul, pow-succ'}
-use Rattle.pa_mem.specs.Memory.{Region, IsBytes, byte_at, load, store}
+use Rattle.pa_mem.specs.Memory.{Region, IsBytes, byte_at, load}
 use Rattle.pa_mem.proofs.Ranges.{load-of_bytes}
 use Rattle.pa_selected.proofs.Operating.{whole_signed}
-use Rattle.pa_lir.specs.Values.{FlatValue, Number, At, Code, Byte, Unset, Octet, Part, same_value, octets, parts, whole, bytes_of, octet_before, number_in, are_parts, pointer_if, pointer_in, if_movable, is_movable, value_or, value_in, extended}
+use Rattle.pa_lir.specs.Values.{FlatValue, Number, At, Code, Byte, Unset, Octet, Part, same_value, octets, parts, octet_before, number_in, are_parts, pointer_in, if_movable, value_or, value_in, extended}
 use Rattle.pa_selected.specs.Values.{Addresses, StandsFor, IsPart, IsByte, HasBytes}
 
 some_number : (x y : ℕ) → Some x ≡ Some y → x ≡ y

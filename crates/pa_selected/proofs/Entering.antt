@@ -1,6 +1,6 @@
 -- The beginning of a function: PACIBSP signs the return address over the caller's stack pointer before anything is stored, and the
 -- signed address is stored in the new frame.
-use Rattle.std.proofs.Common.{◌≡◌, ◌≢◌, ℕ, zero, suc, ◌+◌, ◌-◌, ◌*◌, ◌%◌, ◌^◌, ◌≤◌, ◌<◌, Bool, true, List, [], ◌∷◌, ◌++◌, length, get_or, set, Option, Some, None, refl, sym, ap, subst, ◌∙◌, arith, length-set, get_or-set_same, get_or-set_other}
+use Rattle.std.proofs.Common.{◌≡◌, ℕ, suc, ◌+◌, ◌-◌, ◌*◌, ◌%◌, ◌^◌, ◌≤◌, ◌<◌, true, [], ◌∷◌, length, get_or, set, None, refl, sym, ap, subst, ◌∙◌, arith, get_or-set_same, get_or-set_other}
 use Rattle.std.specs.Prelude.{pos}
 use Rattle.pa_pac.specs.declared.key.Key.TheVariants.{IB}
 use Rattle.pa_pac.specs.declared.event.Event.TheVariants as event
@@ -10,20 +10,19 @@ use Rattle.pa_pac.proofs.Laws.{sign-lt}
 use Rattle.pa_a64.specs.declared.instr.Instr.TheVariants as i
 use Rattle.pa_a64.specs.declared.instr.SumImmediateOp.TheVariants as immediate
 use Rattle.pa_a64.specs.declared.instr.LoadStorePairOp.TheVariants.{Stp}
-use Rattle.pa_a64.specs.declared.instr.StackOp.TheVariants.{Pacibsp}
-use Rattle.pa_mem.specs.Memory.{Region, Write, allowed, load, store}
+use Rattle.pa_mem.specs.Memory.{Write, allowed, load, store}
 use Rattle.pa_mem.proofs.Bytes.{allowed-part}
-use Rattle.pa_mem.proofs.Ranges.{load-store-other, load-store-allowed, allowed-store}
+use Rattle.pa_mem.proofs.Ranges.{load-store-allowed, allowed-store}
 use Rattle.pa_object.specs.Machine.{Machine, register}
 use Rattle.pa_object.specs.Placed.{Stands, HasCode}
-use Rattle.pa_object.specs.Run.{step, advance_by}
+use Rattle.pa_object.specs.Run.{advance_by}
 use Rattle.pa_object.proofs.Placed.{HasCode-append}
 use Rattle.pa_object.proofs.Growth.{advance_by-add}
 use Rattle.pa_object.proofs.Steps.{pacibsp_step, stp_sp_step}
 use Rattle.pa_lir.specs.declared.function.LirFn.{LirFn}
 use Rattle.pa_frame.specs.Frames.{size_of_frame}
 use Rattle.pa_select.specs.Accesses.{moved_by}
-use Rattle.pa_select.specs.Selected.{prologue, store_parameters}
+use Rattle.pa_select.specs.Selected.{prologue}
 use Rattle.pa_select.proofs.Costs.{length-moved_by}
 use Rattle.pa_selected.specs.Calls.{IsRunning}
 use Rattle.pa_selected.proofs.Straight.{one}

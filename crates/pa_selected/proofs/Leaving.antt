@@ -1,8 +1,7 @@
 -- The end of a function: its registers are read back, the stack pointer is the caller's again, and RETAB authenticates the return
 -- address.
-use Rattle.std.proofs.Common.{◌≡◌, ◌≢◌, ℕ, zero, suc, ◌+◌, ◌-◌, ◌*◌, ◌/◌, ◌%◌, ◌^◌, ◌≤◌, ◌<◌, Bool, true, false, cond, ltb, List, [], ◌∷◌, ◌++◌, length, get_or, set, Option, Some, None, refl, sym, ap, subst, ◌∙◌, arith, length-set, get_or-set_same, get_or-set_other}
-use Rattle.std.specs.Prelude.{pos, slice_get}
-use Rattle.pa_num.specs.Arithmetic.{add64, sub64}
+use Rattle.std.proofs.Common.{◌≡◌, ℕ, suc, ◌+◌, ◌-◌, ◌*◌, ◌/◌, ◌%◌, ◌^◌, ◌≤◌, ◌<◌, Bool, true, false, cond, ltb, [], ◌∷◌, length, get_or, set, Some, None, refl, sym, ap, subst, ◌∙◌, arith, length-set, get_or-set_same, get_or-set_other}
+use Rattle.std.specs.Prelude.{slice_get}
 use Rattle.pa_pac.specs.declared.key.Key.TheVariants.{IB}
 use Rattle.pa_pac.specs.declared.event.Way.TheVariants as way
 use Rattle.pa_pac.specs.declared.event.Event.TheVariants as event
@@ -14,9 +13,8 @@ use Rattle.pa_pac.proofs.Laws.{auth-sign}
 use Rattle.pa_a64.specs.declared.instr.Instr.TheVariants as i
 use Rattle.pa_a64.specs.declared.instr.SumImmediateOp.{SumImmediateOp}
 use Rattle.pa_a64.specs.declared.instr.SumImmediateOp.TheVariants as immediate
-use Rattle.pa_a64.specs.declared.instr.LoadStorePairOp.TheVariants.{Ldp}
 use Rattle.pa_a64.specs.declared.instr.StackOp.TheVariants.{Retab}
-use Rattle.pa_mem.specs.Memory.{Region, Read, allowed, load}
+use Rattle.pa_mem.specs.Memory.{Read, allowed, load}
 use Rattle.pa_mem.proofs.Bytes.{allowed-part}
 use Rattle.pa_object.specs.Machine.{Machine, register}
 use Rattle.pa_object.specs.Effects.{immediate_sum, immediate_of}

@@ -18,4 +18,4 @@ pub mod Comings
 pub mod Entering
 pub mod Loading
 mod Changing
-mod Stores
+pub mod Stores

@@ -1,5 +1,5 @@
 -- A load from a living object through a place: the whole relation holds behind it.
-use Rattle.std.proofs.Common.{◌≡◌, ℕ, ◌+◌, ◌-◌, ◌*◌, ◌^◌, ◌≤◌, ◌<◌, Bool, true, false, cond, leb, List, [], ◌∷◌, ◌++◌, length, take, drop, max, Option, Some, None, refl, sym, ap, subst, ◌∙◌, arith}
+use Rattle.std.proofs.Common.{◌≡◌, ℕ, ◌+◌, ◌*◌, ◌≤◌, Bool, true, false, cond, leb, List, ◌∷◌, length, take, drop, Some, None, refl, sym, ap, subst, ◌∙◌, arith}
 use Rattle.std.specs.Prelude.{pos, slice_get, slice_index, unwrap_or, ◌&&◌}
 use Rattle.std.proofs.lemmas.List.{length-append, length-take-le, length-drop}
 use Rattle.std.proofs.lemmas.Bool.{and_parts, leb-true}
@@ -12,14 +12,14 @@ use Rattle.pa_lir.specs.WellFormed.{IsWidth}
 use Rattle.pa_lir.specs.Values.{FlatValue, At, Byte, Object, Objects, extended, bytes_at, value_in}
 use Rattle.pa_lir.specs.Meaning.{Open, temp, with_temp}
 use Rattle.pa_select.specs.Computing as code
-use Rattle.pa_select.specs.Selected.{load_temp, store_temp, words_of}
+use Rattle.pa_select.specs.Selected.{load_temp, store_temp}
 use Rattle.pa_select.proofs.Costs.{words_at_most}
 use Rattle.pa_selected.specs.Values.{Addresses, StandsFor, HasBytes}
 use Rattle.pa_selected.specs.Worlds.{World}
 use Rattle.pa_selected.proofs.Bytes.{HasBytes-drop, HasBytes-take}
 use Rattle.pa_selected.proofs.Contents.{value_loaded}
-use Rattle.pa_selected.proofs.Storing.{slot, load_follows}
-use Rattle.pa_selected.proofs.Steps.{Follows, follows, temp_below, code_of_op, room_at}
+use Rattle.pa_selected.proofs.Storing.{load_follows}
+use Rattle.pa_selected.proofs.Steps.{follows, temp_below, code_of_op, room_at}
 use Rattle.pa_selected.proofs.Giving.{Ready, Moves, open_call, function_placed, follows_ready}
 
 -- bytes of a living object, which reach no further than it does

@@ -1,22 +1,18 @@
 -- One operation of the newest open call: the whole relation holds behind it.
-use Rattle.std.proofs.Common.{◌≡◌, ℕ, zero, suc, ◌+◌, ◌-◌, ◌*◌, ◌^◌, ◌≤◌, ◌<◌, Bool, true, List, [], ◌∷◌, ◌++◌, length, take, drop, max, Option, Some, None, refl, sym, ap, subst, ◌∙◌, arith}
-use Rattle.std.specs.Prelude.{slice_get, slice_index, nat_le, ◌&&◌, if◌then◌else◌, option_and_then}
+use Rattle.std.proofs.Common.{◌≡◌, ℕ, suc, ◌+◌, ◌^◌, ◌≤◌, ◌<◌, Bool, List, ◌∷◌, ◌++◌, length, Some, refl, sym, ap, subst, arith}
+use Rattle.std.specs.Prelude.{slice_get}
 use Rattle.std.proofs.lemmas.List.{length-append}
-use Rattle.std.proofs.lemmas.Bool.{and_parts, leb-true}
-use Rattle.pa_mem.specs.Memory.{Region, Read, allowed, load}
-use Rattle.pa_mem.proofs.Bytes.{allowed-part}
+use Rattle.pa_mem.specs.Memory.{Region, load}
 use Rattle.pa_object.specs.Machine.{Machine}
-use Rattle.pa_lir.specs.declared.op.Op.{Op}
 use Rattle.pa_lir.specs.declared.op.Op.TheVariants as op
 use Rattle.pa_lir.specs.declared.op.BinOp.{BinOp}
 use Rattle.pa_lir.specs.declared.op.UnOp.{UnOp}
 use Rattle.pa_lir.specs.Flow.{place_of_label}
 use Rattle.pa_lir.specs.Operators.{of_numbers, of_number}
-use Rattle.pa_lir.specs.Parts.{held, cost}
-use Rattle.pa_lir.specs.Values.{FlatValue, Number, At, Code, Byte, Object, Objects, extended, bytes_at, value_in}
+use Rattle.pa_lir.specs.Parts.{held}
+use Rattle.pa_lir.specs.Values.{FlatValue, Number, At, Code, Objects, extended}
 use Rattle.pa_lir.specs.Meaning.{Open, temp, with_temp, putchar, getchar}
-use Rattle.pa_select.specs.Selectable.{IsInRange}
-use Rattle.pa_select.specs.Selected.{load_temp, store_temp, operands, words_of}
+use Rattle.pa_select.specs.Selected.{load_temp, store_temp, operands}
 use Rattle.pa_select.specs.Computing as code
 use Rattle.pa_select.specs.Constants.{constant}
 use Rattle.pa_select.specs.Accesses.{address}
@@ -24,16 +20,16 @@ use Rattle.pa_frame.specs.Frames.{place_of_local}
 use Rattle.pa_a64.specs.declared.instr.Instr.{Instr}
 use Rattle.pa_lir.specs.declared.function.LirFn.{LirFn}
 use Rattle.pa_select.proofs.Costs.{words_at_most}
-use Rattle.pa_selected.specs.Values.{Addresses, StandsFor, HasBytes, HasObjects}
-use Rattle.pa_selected.specs.Worlds.{World, place_of_op}
-use Rattle.pa_selected.specs.Calls.{IsAt, HasCallFrames}
+use Rattle.pa_selected.specs.Values.{Addresses, StandsFor, HasObjects}
+use Rattle.pa_selected.specs.Worlds.{World}
+use Rattle.pa_selected.specs.Calls.{HasCallFrames}
 use Rattle.pa_selected.proofs.Linked.{some_stored}
 use Rattle.pa_selected.proofs.Storing.{slot}
 use Rattle.pa_selected.proofs.Straight.{runs_on}
-use Rattle.pa_selected.proofs.Branching.{Turns, MovesTo, moved, label_runs, jump_runs, branch_falls, branch_goes}
-use Rattle.pa_selected.proofs.Steps.{Follows, const_runs, bin_runs, un_runs, extend_runs, local_runs}
+use Rattle.pa_selected.proofs.Branching.{MovesTo, moved, label_runs, jump_runs, branch_falls, branch_goes}
+use Rattle.pa_selected.proofs.Steps.{const_runs, bin_runs, un_runs, extend_runs, local_runs}
 use Rattle.pa_selected.proofs.Keeping.{placed_later}
-use Rattle.pa_selected.proofs.Giving.{Ready, Leads, Moves, open_call, function_placed, follows_ready}
+use Rattle.pa_selected.proofs.Giving.{Ready, Moves, open_call, function_placed, follows_ready}
 
 some_after : (f : LirFn) (is : List Instr) (instr : Instr) (rest : List Instr) → 1 ≤ length (is ++ instr ∷ rest)
 some_after f is instr rest = omega (arith, length-append is (instr ∷ rest))
