@@ -1,7 +1,8 @@
 -- What is left of the input, in every run beside every script: its SVC #2 took its bytes in their order, and nothing else did.
-use Rattle.std.proofs.Common.{◌≡◌, ℕ, zero, suc, Bool, true, false, cond, List, [], ◌∷◌, drop, refl, sym, ap, ◌∙◌, Some}
+use Rattle.std.proofs.Common.{◌≡◌, ℕ, zero, suc, ◌+◌, one-add, zero-add, Bool, true, false, cond, List, [], ◌∷◌, drop, refl, sym, ap, ◌∙◌, Some}
 use Rattle.std.specs.Prelude.{◌==◌}
 use Rattle.std.proofs.lemmas.Bool.{eqb-true}
+use Rattle.std.proofs.lemmas.List.Sums.{sum_by-cons}
 use Rattle.pa_pac.specs.Signing.{Code}
 use Rattle.pa_a64.specs.declared.instr.Instr.{Instr}
 use Rattle.pa_a64.specs.declared.instr.Instr.TheVariants as i
@@ -22,7 +23,8 @@ use Rattle.pa_a64.specs.Decoding.{decoded}
 use Rattle.pa_object.specs.Machine.{Machine, next}
 use Rattle.pa_object.specs.Effects.{effect, called, prints, reads, exits, behind_first}
 use Rattle.pa_object.specs.Run.{Script, Place, Watched, watched_once, watched}
-use Rattle.pa_laws.specs.Input.{reads_input, count_of, left_of}
+use Rattle.pa_laws.specs.Made.{is_some_and}
+use Rattle.pa_laws.specs.Input.{reads_input, readings, left_of}
 use Rattle.pa_laws.proofs.Advanced.{Advanced, rests, runs, advanced}
 
 called_input : (number : ℕ) (m : Machine) → (called number m).input ≡ cond (number == 2) (behind_first m.input) m.input
@@ -63,12 +65,13 @@ behind-drop (suc n) (byte ∷ bytes) = behind-drop n bytes
 -- one instruction more in a trail
 left-more : (input : List ℕ) (at word : ℕ) (instr : Instr) (trail : List Place) → decoded word ≡ Some instr
     → left_of input (record { at = at; word = word } ∷ trail) ≡ cond (reads_input instr) (behind_first (left_of input trail)) (left_of input trail)
-unfolding count_of
-left-more input at word instr trail d = rw d (by (reads_input instr))
+left-more input at word instr trail d =
+    ap (λ n. drop n input) (sum_by-cons (λ place. cond (is_some_and reads_input (decoded place.word)) 1 0) (record { at = at; word = word }) trail)
+    ∙ rw d (by (reads_input instr))
   where
-    by : (b : Bool) → drop (cond b (suc (count_of reads_input trail)) (count_of reads_input trail)) input ≡ cond b (behind_first (left_of input trail)) (left_of input trail)
-    by true = sym (behind-drop (count_of reads_input trail) input)
-    by false = refl
+    by : (b : Bool) → drop (cond b 1 0 + readings trail) input ≡ cond b (behind_first (left_of input trail)) (left_of input trail)
+    by true = ap (λ n. drop n input) (one-add (readings trail)) ∙ sym (behind-drop (readings trail) input)
+    by false = ap (λ n. drop n input) (zero-add (readings trail))
 
 once_input : (code : Code) (input : List ℕ) (w v : Watched) → Advanced code w v → w.machine.input ≡ left_of input w.trail → v.machine.input ≡ left_of input v.trail
 once_input code input w v (rests r) h = r.input ∙ h ∙ ap (left_of input) (sym r.trail)
@@ -88,5 +91,4 @@ run_input code script input (suc n) w h =
 
 -- before its first instruction a machine has its whole input
 pub begins_input : (input : List ℕ) → input ≡ left_of input []
-unfolding count_of
 begins_input input = refl

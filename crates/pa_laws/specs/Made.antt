@@ -9,14 +9,14 @@ use Rattle.pa_a64.specs.declared.instr.Instr.{Instr}
 use Rattle.pa_a64.specs.Decoding.{decoded}
 use Rattle.pa_object.specs.Run.{Place}
 
-abbrev pub is_some : {A : Type 0} → (A → Bool) → Option A → Bool
-is_some q None = false
-is_some q (Some x) = q x
+abbrev pub is_some_and : {A : Type 0} → (A → Bool) → Option A → Bool
+is_some_and q None = false
+is_some_and q (Some x) = q x
 
 -- the instruction of this number, counted from the oldest of a trail, is there and of such a row
 unfoldable pub ran : (Instr → Bool) → List Place → ℕ → Bool
 ran q [] number = false
-ran q (place ∷ older) number = if number == length older then is_some q (decoded place.word) else ran q older number
+ran q (place ∷ older) number = if number == length older then is_some_and q (decoded place.word) else ran q older number
 
 abbrev pub is_loading : When → Bool
 is_loading moment.Load = true
