@@ -1,0 +1,2 @@
+//! Flat code of typed trees. Definitions stand in `specs/`.
+#![tactic(auto)]
