@@ -1,5 +1,5 @@
 //! Parses a made file a number of times, to be timed from outside: `bench_parse SHAPE COPIES TIMES`. It prints how many tokens
-//! the file has and how many items, or the rule that it breaks.
+//! the file has and how many items, or the rule that it breaks. With 0 times it prints the file.
 #![tactic(auto)]
 
 use pa_lex::{Token, lex};
@@ -9,9 +9,18 @@ use std::alloc::{AllocError, Global};
 use std::fmt::Write;
 use std::{env, io};
 
-/// 94 tokens, 57 nodes.
-const SOURCE: &str = "
-static long sum_of(struct row *row, unsigned count) {
+/// What the functions of a unit need, so that a compiler takes it.
+const DECLARATIONS: &str = "
+struct cell { int kind; unsigned long value; };
+struct row { struct cell cells[9]; };
+int print_line(const char *text, unsigned at, long total);
+";
+
+const BEGIN: &str = "
+static long sum_of";
+
+/// With `BEGIN` in front of it: 94 tokens, 57 nodes.
+const REST: &str = "(struct row *row, unsigned count) {
     long total = 0;
     for (unsigned i = 0; i < count; i++) {
         if (row->cells[i].value != 0x7FFFul && row->cells[i].kind == 'v')
@@ -43,14 +52,9 @@ fn shape_of(name: &str) -> Shape {
             middle: "x++;",
             last: "}",
         },
-        "sum" => Shape {
+        _ => Shape {
             first: "int x;",
             middle: "int f(int x) { return x + x * x; }",
-            last: "",
-        },
-        _ => Shape {
-            first: "struct row;",
-            middle: SOURCE,
             last: "",
         },
     }
@@ -82,12 +86,22 @@ fn made_typedefs(alloc: Global, copies: u32) -> Result<Vec<u8>, AllocError> {
     Vec::from_slice(alloc, text.as_bytes())
 }
 
-fn made(alloc: Global, name: &str, copies: u32) -> Result<Vec<u8>, AllocError> {
-    if name == "deep" {
-        return made_deep(alloc, copies);
+/// A unit of so many functions, each with a name of its own.
+fn made_source(alloc: Global, copies: u32) -> Result<Vec<u8>, AllocError> {
+    let mut text = String::new(alloc);
+    write!(text, "{DECLARATIONS}")?;
+    for i in 0..copies {
+        write!(text, "{BEGIN}{i}{REST}")?;
     }
-    if name == "typedefs" {
-        return made_typedefs(alloc, copies);
+    Vec::from_slice(alloc, text.as_bytes())
+}
+
+fn made(alloc: Global, name: &str, copies: u32) -> Result<Vec<u8>, AllocError> {
+    match name {
+        "source" => return made_source(alloc, copies),
+        "deep" => return made_deep(alloc, copies),
+        "typedefs" => return made_typedefs(alloc, copies),
+        _ => {}
     }
     let shape = shape_of(name);
     let mut text = Vec::new(alloc);
@@ -119,6 +133,9 @@ fn main(rt: HostRuntime) -> io::Result<()> {
     let copies: u32 = copies.parse().unwrap_or(0);
     let times: u32 = times.parse().unwrap_or(0);
     let text = made(rt.alloc(), shape.as_str(), copies)?;
+    if times == 0 {
+        return io::Write::write_all(&mut rt.stdout(), &text);
+    }
     if text.len() > 4_294_967_295 {
         return Ok(());
     }

@@ -6,4 +6,5 @@ pub mod Parser
 pub mod Parts
 pub mod Reading
 pub mod Reads
+pub mod Rule
 pub mod Tokens

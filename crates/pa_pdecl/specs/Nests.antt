@@ -5,19 +5,18 @@ use Rattle.std.specs.Borrow.{Bor, MutBor}
 use Rattle.pa_tree.specs.declared.declaration.Initializer.{Initializer}
 use Rattle.pa_tree.specs.declared.stmt.Stmt.{Stmt}
 use Rattle.pa_tree.specs.Cursors.{Cursor}
-use Rattle.pa_tree.specs.Views.{initializer_tree, stmt_tree}
 use Rattle.pa_grammar.specs.declared.rule.ParseError.{ParseError}
-use Rattle.pa_grammar.specs.Reads.{Reads}
-use Rattle.pa_pdecl.specs.Reading as reading
+use Rattle.pa_grammar.specs.Rule.{Follows}
+use Rattle.pa_pdecl.specs.Rules as rule
 
 pub record NestsInitializer (d : ℕ) (pre : Global → Bor (List ℕ) → MutBor Cursor → ℕ → Type 0)
     (post : Global → Bor (List ℕ) → MutBor Cursor → ℕ → Result Initializer ParseError → MutBor Cursor → Type 0) : Type 0 where
   pub callable : (alloc : Global) (names : Bor (List ℕ)) (old : MutBor Cursor) → pre alloc names old d
   pub reads : (alloc : Global) (names : Bor (List ℕ)) (old new : MutBor Cursor) (r : Result Initializer ParseError) → post alloc names old d r new
-      → Reads initializer_tree (reading.initializer names.now d old.now) r new.now
+      → Follows (rule.initializer names.now d) old.now r new.now
 
 pub record NestsStmt (d : ℕ) (pre : Global → Bor (List ℕ) → MutBor Cursor → ℕ → Type 0)
     (post : Global → Bor (List ℕ) → MutBor Cursor → ℕ → Result Stmt ParseError → MutBor Cursor → Type 0) : Type 0 where
   pub callable : (alloc : Global) (names : Bor (List ℕ)) (old : MutBor Cursor) → pre alloc names old d
   pub reads : (alloc : Global) (names : Bor (List ℕ)) (old new : MutBor Cursor) (r : Result Stmt ParseError) → post alloc names old d r new
-      → Reads stmt_tree (reading.stmt names.now d old.now) r new.now
+      → Follows (rule.statement names.now d) old.now r new.now

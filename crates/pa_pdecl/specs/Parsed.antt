@@ -5,7 +5,7 @@ use Rattle.pa_lex.specs.declared.token.Token.{Token}
 use Rattle.pa_tree.specs.declared.file.File.{File}
 use Rattle.pa_tree.specs.Views.{file_tree}
 use Rattle.pa_grammar.specs.declared.rule.SynRule.{SynRule}
-use Rattle.pa_pdecl.specs.Answers.{IsAnswer}
+use Rattle.pa_file_grammar.specs.Answers.{IsAnswer}
 
 abbrev pub IsParsed : List Token → Result File (Fault SynRule) → Type 0
 IsParsed tokens (Ok f) = IsAnswer tokens (Ok (file_tree f))

@@ -1,22 +1,19 @@
 //! Declarations in a block (C11 6.7).
 
 ghost use Rattle.std.specs.Prelude.{◌≤◌, None};
-ghost use Rattle.std.specs.Option.{option_map};
-ghost use Rattle.pa_tree.specs.Views.{initializer_tree, block_declaration_tree};
-ghost use Rattle.pa_grammar.specs.Reads.{Reads};
-ghost use Rattle.pa_pdecl.specs.Reading as reading;
 ghost use Rattle.pa_pdecl.specs.Rules as rule;
+ghost use Rattle.pa_grammar.specs.Rule.{Follows};
 
 use crate::initializer::initializer;
 use pa_grammar::{Naming, ParseError, Reader, TypeNames, needs};
 use pa_lex::Punct;
-use pa_pexpr::{read_declarator, read_specs};
+use pa_readers::{read_declarator, read_specs};
 use pa_tree::{BlockDeclaration, Declarator, InitDeclarator, Initializer};
 use sqlite_items::Items;
 use std::alloc::Global;
 
 /// The initializer behind a declarator, where one is.
-#[tactic(auto, unfolding(crate::specs::Reading::assigned))]
+#[tactic(auto, unfolding(pa_file_grammar::specs::Reading::assigned))]
 fn assigned(
     alloc: Global,
     names: &TypeNames,
@@ -24,7 +21,7 @@ fn assigned(
     depth: u32,
 ) -> Result<Option<Initializer>, ParseError>
     requires { depth ≤ 200 }
-    ensures { Reads (option_map initializer_tree) (reading.assigned names.now depth r.old) result r.new }
+    ensures { Follows (rule.assigned names.now depth) r.old result r.new }
 {
     if !r.sees(Punct::Assign) {
         return Ok(None);
@@ -43,7 +40,7 @@ pub fn finished(
     declarator: Declarator,
 ) -> Result<InitDeclarator, ParseError>
     requires { depth ≤ 200 }
-    ensures { rule.ReadsDeclarator (rule.finished None depth names.now from declarator r.old) result r.new }
+    ensures { Follows (rule.rest None depth names.now from declarator) r.old result r.new }
 {
     let initializer = assigned(alloc, names, r, depth)?;
     Ok(InitDeclarator {
@@ -55,7 +52,7 @@ pub fn finished(
 }
 
 /// A declarator with its initializer.
-#[tactic(auto, unfolding(crate::specs::Reading::init_declarator))]
+#[tactic(auto, unfolding(pa_file_grammar::specs::Reading::init_declarator))]
 fn init_declarator(
     alloc: Global,
     names: &TypeNames,
@@ -63,7 +60,7 @@ fn init_declarator(
     depth: u32,
 ) -> Result<InitDeclarator, ParseError>
     requires { depth ≤ 200 }
-    ensures { rule.ReadsDeclarator (rule.init_declarator None depth names.now r.old) result r.new }
+    ensures { Follows (rule.init_declarator None depth names.now) r.old result r.new }
 {
     let from = r.begin();
     let declarator = read_declarator(alloc, names, r, depth, Naming::Named)?.tree;
@@ -71,7 +68,7 @@ fn init_declarator(
 }
 
 /// The declarators behind the first one.
-#[tactic(auto, using(crate::proofs::Turns::declared_turn, crate::proofs::Turns::behind_none, crate::proofs::Turns::mark_shortens, crate::proofs::Turns::init_declarator_keeps))]
+#[tactic(auto, using(pa_file_grammar::proofs::Turns::declared_turn, pa_file_grammar::proofs::Turns::behind_none, pa_file_grammar::proofs::Turns::mark_shortens, pa_file_grammar::proofs::Turns::init_declarator_keeps))]
 fn more_declarators(
     alloc: Global,
     names: &TypeNames,
@@ -80,7 +77,7 @@ fn more_declarators(
     first: InitDeclarator,
 ) -> Result<Items<InitDeclarator>, ParseError>
     requires { depth ≤ 200 }
-    ensures { rule.ReadsDeclarators (rule.more_declared None depth names.now first r.old) result r.new }
+    ensures { Follows (rule.more_declared None depth names.now first) r.old result r.new }
 {
     let mut items = Items::new(alloc);
     items.push(first)?;
@@ -95,7 +92,7 @@ fn more_declarators(
 }
 
 /// A declaration in a block.
-#[tactic(auto, unfolding(crate::specs::Reading::block_declaration))]
+#[tactic(auto, unfolding(pa_file_grammar::specs::Reading::block_declaration))]
 pub fn block_declaration(
     alloc: Global,
     names: &TypeNames,
@@ -103,7 +100,7 @@ pub fn block_declaration(
     depth: u32,
 ) -> Result<BlockDeclaration, ParseError>
     requires { depth ≤ 200 }
-    ensures { Reads block_declaration_tree (reading.block_declaration names.now depth r.old) result r.new }
+    ensures { Follows (rule.block_declaration names.now depth) r.old result r.new }
 {
     let from = r.begin();
     needs(1, depth)?;

@@ -1,19 +1,17 @@
 //! Files: include lines, declarations and function definitions (C11 6.9).
 
-ghost use Rattle.std.specs.Prelude.{◌≡◌, ◌≤◌, ◌∷◌, ◌++◌, map, OnOk, Ok};
-ghost use Rattle.pa_tree.specs.Cursors as cursors;
+ghost use Rattle.std.specs.Prelude.{◌≡◌, ◌≤◌, ◌++◌, OnOk, Ok};
 ghost use Rattle.pa_lex.specs.Numbering.{stdint_numbers};
-ghost use Rattle.pa_tree.specs.Views.{file_item_tree};
-ghost use Rattle.pa_grammar.specs.Reads.{Reads};
-ghost use Rattle.pa_pdecl.specs.Reading as reading;
+ghost use Rattle.pa_file_grammar.specs.Reading as reading;
 ghost use Rattle.pa_pdecl.specs.Rules as rule;
+ghost use Rattle.pa_grammar.specs.Rule.{Follows};
 
 use crate::statement::stmt;
 use crate::typedef::declarators;
 use pa_grammar::{Naming, ParseError, Reader, SynRule, TypeNames};
 use pa_lex::{Include, Keyword, Kind, Punct};
 use pa_num::Memory;
-use pa_pexpr::{read_declarator, read_specs};
+use pa_readers::{read_declarator, read_specs};
 use pa_tree::{
     Declaration, Declarator, FileItem, FunctionDefinition, InitDeclarator, Specs, Storage,
 };
@@ -50,7 +48,7 @@ fn close(
     front: Front,
     declarators: Items<InitDeclarator>,
 ) -> Result<FileItem, ParseError>
-    ensures { Reads file_item_tree (rule.declaration_end depth front declarators r.old) result r.new }
+    ensures { Follows (rule.declaration_end depth front declarators) r.old result r.new }
 {
     r.expect(Punct::Semicolon)?;
     let to = r.ended();
@@ -78,7 +76,7 @@ fn define(
     declarator: Declarator,
 ) -> Result<FileItem, ParseError>
     requires { depth ≤ 200 }
-    ensures { Reads file_item_tree (rule.function_body depth names.now front declarator r.old) result r.new }
+    ensures { Follows (rule.function_body names.now depth front declarator) r.old result r.new }
 {
     let body = stmt(alloc, names, r, depth)?;
     let to = r.ended();
@@ -98,7 +96,7 @@ fn define(
 }
 
 /// Behind the first declarator, which begins at `from`: a function's body, or the rest of a declaration.
-#[tactic(auto, using(crate::proofs::Turns::declared_first))]
+#[tactic(auto, using(pa_file_grammar::proofs::Turns::declared_first))]
 fn declared(
     alloc: Global,
     names: &mut TypeNames,
@@ -109,7 +107,7 @@ fn declared(
     declarator: Declarator,
 ) -> Result<FileItem, ParseError>
     requires { depth ≤ 200 }
-    ensures value { Reads file_item_tree (rule.declared depth names.old front from declarator r.old) result r.new }
+    ensures value { Follows (rule.tail names.old depth front from declarator) r.old result r.new }
     ensures names { rule.NamesBehindItem names.old result names.new }
 {
     let is_typedef = matches!(front.storage, Some(Storage::Typedef));
@@ -128,7 +126,7 @@ fn external(
     depth: u32,
 ) -> Result<FileItem, ParseError>
     requires { depth ≤ 200 }
-    ensures value { Reads file_item_tree (reading.external depth names.old (cursors.begin r.old) r.old) result r.new }
+    ensures value { Follows (rule.external names.old depth) r.old result r.new }
     ensures names { rule.NamesBehindItem names.old result names.new }
 {
     let from = r.begin();
@@ -162,7 +160,7 @@ fn add_stdint(names: &mut TypeNames) -> Result<(), Memory>
 }
 
 /// An item of a file.
-#[tactic(auto, unfolding(crate::specs::Reading::file_item))]
+#[tactic(auto, unfolding(pa_file_grammar::specs::Reading::file_item))]
 fn file_item(
     alloc: Global,
     names: &mut TypeNames,
@@ -170,7 +168,7 @@ fn file_item(
     depth: u32,
 ) -> Result<FileItem, ParseError>
     requires { depth ≤ 200 }
-    ensures value { Reads file_item_tree (reading.file_item depth names.old r.old) result r.new }
+    ensures value { Follows (rule.file_item names.old depth) r.old result r.new }
     ensures names { rule.NamesBehindItem names.old result names.new }
 {
     let Some(t) = r.peek() else {
@@ -191,14 +189,14 @@ fn file_item(
 }
 
 /// All items of a file, which the reader stands before.
-#[tactic(auto, using(crate::proofs::Turns::file_turn, crate::proofs::Turns::names_snoc, crate::proofs::Turns::file_item_shortens), unfolding(crate::specs::Reading::file))]
+#[tactic(auto, using(pa_file_grammar::proofs::Turns::file_turn, pa_file_grammar::proofs::Turns::names_snoc, pa_file_grammar::proofs::Turns::file_item_shortens), unfolding(pa_file_grammar::specs::Reading::file))]
 pub fn file_items(
     alloc: Global,
     r: &mut Reader<'_>,
     depth: u32,
 ) -> Result<Items<FileItem>, ParseError>
     requires { depth ≤ 200 }
-    ensures { Reads (map file_item_tree) (reading.file depth r.old) result r.new }
+    ensures { Follows (rule.file_items depth) r.old result r.new }
 {
     let mut names = TypeNames::new(alloc);
     let mut items = Items::new(alloc);

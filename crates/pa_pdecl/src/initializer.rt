@@ -1,16 +1,14 @@
 //! Initializers (C11 6.7.9).
 
-ghost use Rattle.std.specs.Prelude.{◌≤◌, map};
-ghost use Rattle.pa_tree.specs.Views.{initializer_tree};
-ghost use Rattle.pa_grammar.specs.Reads.{Reads};
+ghost use Rattle.std.specs.Prelude.{◌≤◌};
 ghost use Rattle.pa_pdecl.specs.Nests.{NestsInitializer};
-ghost use Rattle.pa_pdecl.specs.Reading as reading;
 ghost use Rattle.pa_pdecl.specs.Rules as rule;
+ghost use Rattle.pa_grammar.specs.Rule.{Follows};
 
 use pa_grammar::{ParseError, Reader, SynRule, TypeNames, needs};
 use pa_lex::Punct;
-use pa_pexpr::read_expr;
-use pa_pspec::At;
+use pa_parts::At;
+use pa_readers::read_expr;
 use pa_tree::Initializer;
 use sqlite_items::Items;
 use std::alloc::Global;
@@ -31,20 +29,20 @@ impl<'a, F: Fn(Global, &TypeNames, &mut Reader<'_>, u32) -> Result<Initializer, 
     /// An initializer inside.
     fn initializer(&self, r: &mut Reader<'_>) -> Result<Initializer, ParseError>
         requires { NestsInitializer self.now.at.depth (F.pre self.now.item) (F.post self.now.item) }
-        ensures { Reads initializer_tree (rule.initializer self.now.at r.old) result r.new }
+        ensures { Follows (rule.initializer_inside self.now.at) r.old result r.new }
     {
         (self.item)(self.alloc, self.at.names, r, self.at.depth)
     }
 
     /// The initializers behind the first one, and the last comma.
-    #[tactic(auto, using(crate::proofs::Turns::initializer_turn, crate::proofs::Turns::initializer_more, crate::proofs::Turns::mark_shortens, crate::proofs::Turns::initializer_keeps))]
+    #[tactic(auto, using(pa_file_grammar::proofs::Turns::initializer_turn, pa_file_grammar::proofs::Turns::initializer_more, pa_file_grammar::proofs::Turns::mark_shortens, pa_file_grammar::proofs::Turns::initializer_keeps))]
     fn more_initializers(
         &self,
         r: &mut Reader<'_>,
         first: Initializer,
     ) -> Result<Items<Initializer>, ParseError>
         requires { NestsInitializer self.now.at.depth (F.pre self.now.item) (F.post self.now.item) }
-        ensures { Reads (map initializer_tree) (rule.more_initializers self.now.at first r.old) result r.new }
+        ensures { Follows (rule.more_initializers self.now.at first) r.old result r.new }
     {
         let mut items = Items::new(self.alloc);
         items.push(first)?;
@@ -65,7 +63,7 @@ impl<'a, F: Fn(Global, &TypeNames, &mut Reader<'_>, u32) -> Result<Initializer, 
     #[tactic(auto, using(pa_tree::proofs::Views::initializer_views))]
     fn braced(&self, r: &mut Reader<'_>, from: u32) -> Result<Initializer, ParseError>
         requires { NestsInitializer self.now.at.depth (F.pre self.now.item) (F.post self.now.item) }
-        ensures { Reads initializer_tree (rule.braced self.now.at from r.old) result r.new }
+        ensures { Follows (rule.braced self.now.at from) r.old result r.new }
     {
         needs(1, self.at.depth)?;
         r.expect(Punct::LeftBrace)?;
@@ -89,7 +87,7 @@ fn value(
     depth: u32,
 ) -> Result<Initializer, ParseError>
     requires { depth ≤ 200 }
-    ensures { Reads initializer_tree (rule.value names.now depth r.old) result r.new }
+    ensures { Follows (rule.value names.now depth) r.old result r.new }
 {
     let from = r.begin();
     let value = read_expr(alloc, names, r, depth, 1)?.tree;
@@ -101,7 +99,7 @@ fn value(
 }
 
 /// An initializer.
-#[tactic(auto, unfolding(crate::specs::Reading::initializer))]
+#[tactic(auto, unfolding(pa_file_grammar::specs::Reading::initializer))]
 pub fn initializer(
     alloc: Global,
     names: &TypeNames,
@@ -109,7 +107,7 @@ pub fn initializer(
     depth: u32,
 ) -> Result<Initializer, ParseError>
     requires { depth ≤ 200 }
-    ensures { Reads initializer_tree (reading.initializer names.now depth r.old) result r.new }
+    ensures { Follows (rule.initializer names.now depth) r.old result r.new }
 {
     if !r.sees(Punct::LeftBrace) {
         return value(alloc, names, r, depth);

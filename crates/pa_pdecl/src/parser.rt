@@ -32,7 +32,7 @@ fn place(r: &Reader<'_>) -> u32
 /// `Refused` by a rule at the place where reading stops, which is a token's first byte, or the last token's end where none is left: no
 /// file begins with the tokens up to and with the one there, of any depth at S1, and within 200 levels at S2. `Memory` where memory is
 /// short.
-#[tactic(auto, using(crate::proofs::Answers::read_file, crate::proofs::Answers::refused_file))]
+#[tactic(auto, using(pa_file_grammar::proofs::Answers::read_file, pa_file_grammar::proofs::Answers::refused_file))]
 pub fn parse(alloc: Global, tokens: &[Token]) -> Result<File, Fault<SynRule>>
     ensures { IsParsed tokens.now result }
 {

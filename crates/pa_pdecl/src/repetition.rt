@@ -1,12 +1,9 @@
 //! Loops (C11 6.8.5).
 
 ghost use Rattle.std.specs.Prelude.{◌≤◌};
-ghost use Rattle.std.specs.Option.{option_map};
-ghost use Rattle.pa_tree.specs.Views.{expr_tree, for_start_tree, stmt_tree};
-ghost use Rattle.pa_grammar.specs.Reads.{Reads};
-ghost use Rattle.pa_pdecl.specs.Loops.{for_body, for_step, for_test};
 ghost use Rattle.pa_pdecl.specs.Nests.{NestsStmt};
 ghost use Rattle.pa_pdecl.specs.Rules as rule;
+ghost use Rattle.pa_grammar.specs.Rule.{Follows};
 
 use crate::stmt_rules::StmtRules;
 use crate::word::expect_word;
@@ -25,7 +22,7 @@ impl<'a, S: Fn(Global, &TypeNames, &mut Reader<'_>, u32) -> Result<Stmt, ParseEr
     pub fn while_stmt(&self, r: &mut Reader<'_>, t: &Token) -> Result<Stmt, ParseError>
         requires nests { NestsStmt self.now.at.depth (S.pre self.now.stmt) (S.post self.now.stmt) }
         requires shallow { self.now.at.depth ≤ 200 }
-        ensures { Reads stmt_tree (rule.while_stmt self.now.at t.now r.old) result r.new }
+        ensures { Follows (rule.while_stmt self.now.at t.now) r.old result r.new }
     {
         needs(1, self.at.depth)?;
         r.take(t);
@@ -45,7 +42,7 @@ impl<'a, S: Fn(Global, &TypeNames, &mut Reader<'_>, u32) -> Result<Stmt, ParseEr
     pub fn do_stmt(&self, r: &mut Reader<'_>, t: &Token) -> Result<Stmt, ParseError>
         requires nests { NestsStmt self.now.at.depth (S.pre self.now.stmt) (S.post self.now.stmt) }
         requires shallow { self.now.at.depth ≤ 200 }
-        ensures { Reads stmt_tree (rule.do_stmt self.now.at t.now r.old) result r.new }
+        ensures { Follows (rule.do_stmt self.now.at t.now) r.old result r.new }
     {
         needs(1, self.at.depth)?;
         r.take(t);
@@ -73,7 +70,7 @@ impl<'a, S: Fn(Global, &TypeNames, &mut Reader<'_>, u32) -> Result<Stmt, ParseEr
         step: Option<Expr>,
     ) -> Result<Stmt, ParseError>
         requires nests { NestsStmt self.now.at.depth (S.pre self.now.stmt) (S.post self.now.stmt) }
-        ensures { Reads stmt_tree (for_body self.now.at from (for_start_tree start) (option_map expr_tree test) (option_map expr_tree step) r.old) result r.new }
+        ensures { Follows (rule.for_body self.now.at from start test step) r.old result r.new }
     {
         let body = self.stmt(r)?;
         let body = Boxed::new(self.alloc, body)?;
@@ -97,7 +94,7 @@ impl<'a, S: Fn(Global, &TypeNames, &mut Reader<'_>, u32) -> Result<Stmt, ParseEr
     ) -> Result<Stmt, ParseError>
         requires nests { NestsStmt self.now.at.depth (S.pre self.now.stmt) (S.post self.now.stmt) }
         requires shallow { self.now.at.depth ≤ 200 }
-        ensures { Reads stmt_tree (for_step self.now.at from (for_start_tree start) (option_map expr_tree test) r.old) result r.new }
+        ensures { Follows (rule.for_step self.now.at from start test) r.old result r.new }
     {
         let step = self.optional_expr(r, Punct::RightParenthesis)?;
         r.expect(Punct::RightParenthesis)?;
@@ -108,7 +105,7 @@ impl<'a, S: Fn(Global, &TypeNames, &mut Reader<'_>, u32) -> Result<Stmt, ParseEr
     fn for_test(&self, r: &mut Reader<'_>, from: u32, start: ForStart) -> Result<Stmt, ParseError>
         requires nests { NestsStmt self.now.at.depth (S.pre self.now.stmt) (S.post self.now.stmt) }
         requires shallow { self.now.at.depth ≤ 200 }
-        ensures { Reads stmt_tree (for_test self.now.at from (for_start_tree start) r.old) result r.new }
+        ensures { Follows (rule.for_test self.now.at from start) r.old result r.new }
     {
         let test = self.optional_expr(r, Punct::Semicolon)?;
         r.expect(Punct::Semicolon)?;
@@ -119,7 +116,7 @@ impl<'a, S: Fn(Global, &TypeNames, &mut Reader<'_>, u32) -> Result<Stmt, ParseEr
     pub fn for_stmt(&self, r: &mut Reader<'_>, t: &Token) -> Result<Stmt, ParseError>
         requires nests { NestsStmt self.now.at.depth (S.pre self.now.stmt) (S.post self.now.stmt) }
         requires shallow { self.now.at.depth ≤ 200 }
-        ensures { Reads stmt_tree (rule.for_stmt self.now.at t.now r.old) result r.new }
+        ensures { Follows (rule.for_stmt self.now.at t.now) r.old result r.new }
     {
         needs(1, self.at.depth)?;
         r.take(t);

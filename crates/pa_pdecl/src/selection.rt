@@ -1,16 +1,15 @@
 //! Selection statements and labels (C11 6.8.4 and 6.8.1).
 
 ghost use Rattle.std.specs.Prelude.{◌≤◌};
-ghost use Rattle.pa_tree.specs.Views.{stmt_tree};
-ghost use Rattle.pa_grammar.specs.Reads.{Reads};
 ghost use Rattle.pa_pdecl.specs.Nests.{NestsStmt};
 ghost use Rattle.pa_pdecl.specs.Rules as rule;
+ghost use Rattle.pa_grammar.specs.Rule.{Follows};
 
 use crate::stmt_rules::StmtRules;
 use crate::word::{expect_word, sees_word};
 use pa_grammar::{ParseError, Reader, TypeNames, needs};
 use pa_lex::{Keyword, Punct, Token};
-use pa_pexpr::read_expr;
+use pa_readers::read_expr;
 use pa_tree::{Expr, Stmt};
 use sqlite_items::Boxed;
 use std::alloc::Global;
@@ -29,7 +28,7 @@ impl<'a, S: Fn(Global, &TypeNames, &mut Reader<'_>, u32) -> Result<Stmt, ParseEr
         when_true: Stmt,
     ) -> Result<Stmt, ParseError>
         requires nests { NestsStmt self.now.at.depth (S.pre self.now.stmt) (S.post self.now.stmt) }
-        ensures { Reads stmt_tree (rule.else_part self.now.at from test when_true r.old) result r.new }
+        ensures { Follows (rule.else_part self.now.at from test when_true) r.old result r.new }
     {
         let when_true = Boxed::new(self.alloc, when_true)?;
         if !sees_word(r, Keyword::Else) {
@@ -57,7 +56,7 @@ impl<'a, S: Fn(Global, &TypeNames, &mut Reader<'_>, u32) -> Result<Stmt, ParseEr
     pub fn if_stmt(&self, r: &mut Reader<'_>, t: &Token) -> Result<Stmt, ParseError>
         requires nests { NestsStmt self.now.at.depth (S.pre self.now.stmt) (S.post self.now.stmt) }
         requires shallow { self.now.at.depth ≤ 200 }
-        ensures { Reads stmt_tree (rule.if_stmt self.now.at t.now r.old) result r.new }
+        ensures { Follows (rule.if_stmt self.now.at t.now) r.old result r.new }
     {
         needs(1, self.at.depth)?;
         r.take(t);
@@ -71,7 +70,7 @@ impl<'a, S: Fn(Global, &TypeNames, &mut Reader<'_>, u32) -> Result<Stmt, ParseEr
     pub fn switch_stmt(&self, r: &mut Reader<'_>, t: &Token) -> Result<Stmt, ParseError>
         requires nests { NestsStmt self.now.at.depth (S.pre self.now.stmt) (S.post self.now.stmt) }
         requires shallow { self.now.at.depth ≤ 200 }
-        ensures { Reads stmt_tree (rule.switch_stmt self.now.at t.now r.old) result r.new }
+        ensures { Follows (rule.switch_stmt self.now.at t.now) r.old result r.new }
     {
         needs(1, self.at.depth)?;
         r.take(t);
@@ -91,7 +90,7 @@ impl<'a, S: Fn(Global, &TypeNames, &mut Reader<'_>, u32) -> Result<Stmt, ParseEr
     pub fn case_stmt(&self, r: &mut Reader<'_>, t: &Token) -> Result<Stmt, ParseError>
         requires nests { NestsStmt self.now.at.depth (S.pre self.now.stmt) (S.post self.now.stmt) }
         requires shallow { self.now.at.depth ≤ 200 }
-        ensures { Reads stmt_tree (rule.case_stmt self.now.at t.now r.old) result r.new }
+        ensures { Follows (rule.case_stmt self.now.at t.now) r.old result r.new }
     {
         needs(1, self.at.depth)?;
         r.take(t);
@@ -112,7 +111,7 @@ impl<'a, S: Fn(Global, &TypeNames, &mut Reader<'_>, u32) -> Result<Stmt, ParseEr
     pub fn default_stmt(&self, r: &mut Reader<'_>, t: &Token) -> Result<Stmt, ParseError>
         requires nests { NestsStmt self.now.at.depth (S.pre self.now.stmt) (S.post self.now.stmt) }
         requires shallow { self.now.at.depth ≤ 200 }
-        ensures { Reads stmt_tree (rule.default_stmt self.now.at t.now r.old) result r.new }
+        ensures { Follows (rule.default_stmt self.now.at t.now) r.old result r.new }
     {
         needs(1, self.at.depth)?;
         r.take(t);

@@ -1,18 +1,16 @@
 //! Statements (C11 6.8).
 
 ghost use Rattle.std.specs.Prelude.{◌≡◌, ◌≤◌};
-ghost use Rattle.pa_tree.specs.Views.{stmt_tree};
-ghost use Rattle.pa_grammar.specs.Parser as parser;
-ghost use Rattle.pa_grammar.specs.Reads.{Reads};
 ghost use Rattle.pa_pdecl.specs.Nests.{NestsStmt};
-ghost use Rattle.pa_pdecl.specs.Reading as reading;
+ghost use Rattle.pa_file_grammar.specs.Reading as reading;
 ghost use Rattle.pa_pdecl.specs.Rules as rule;
+ghost use Rattle.pa_grammar.specs.Rule.{Follows};
 
 use crate::stmt_rules::StmtRules;
 use pa_grammar::{ParseError, Reader, SynRule, TypeNames};
 use pa_lex::{Keyword, Kind, Punct, Token};
-use pa_pexpr::read_expr;
-use pa_pspec::At;
+use pa_parts::At;
+use pa_readers::read_expr;
 use pa_tree::Stmt;
 use std::alloc::Global;
 
@@ -24,7 +22,7 @@ impl<'a, S: Fn(Global, &TypeNames, &mut Reader<'_>, u32) -> Result<Stmt, ParseEr
     #[tactic(auto, using(pa_tree::proofs::Views::stmt_views))]
     fn break_stmt(&self, r: &mut Reader<'_>, t: &Token) -> Result<Stmt, ParseError>
         requires shallow { self.now.at.depth ≤ 200 }
-        ensures { Reads stmt_tree (rule.break_stmt self.now.at t.now r.old) result r.new }
+        ensures { Follows (rule.break_stmt self.now.at t.now) r.old result r.new }
     {
         r.take(t);
         r.expect(Punct::Semicolon)?;
@@ -38,7 +36,7 @@ impl<'a, S: Fn(Global, &TypeNames, &mut Reader<'_>, u32) -> Result<Stmt, ParseEr
     #[tactic(auto, using(pa_tree::proofs::Views::stmt_views))]
     fn continue_stmt(&self, r: &mut Reader<'_>, t: &Token) -> Result<Stmt, ParseError>
         requires shallow { self.now.at.depth ≤ 200 }
-        ensures { Reads stmt_tree (rule.continue_stmt self.now.at t.now r.old) result r.new }
+        ensures { Follows (rule.continue_stmt self.now.at t.now) r.old result r.new }
     {
         r.take(t);
         r.expect(Punct::Semicolon)?;
@@ -52,7 +50,7 @@ impl<'a, S: Fn(Global, &TypeNames, &mut Reader<'_>, u32) -> Result<Stmt, ParseEr
     #[tactic(auto, using(pa_tree::proofs::Views::stmt_views))]
     fn return_stmt(&self, r: &mut Reader<'_>, t: &Token) -> Result<Stmt, ParseError>
         requires shallow { self.now.at.depth ≤ 200 }
-        ensures { Reads stmt_tree (rule.return_stmt self.now.at t.now r.old) result r.new }
+        ensures { Follows (rule.return_stmt self.now.at t.now) r.old result r.new }
     {
         r.take(t);
         let value = self.optional_expr(r, Punct::Semicolon)?;
@@ -68,7 +66,7 @@ impl<'a, S: Fn(Global, &TypeNames, &mut Reader<'_>, u32) -> Result<Stmt, ParseEr
     #[tactic(auto, using(pa_tree::proofs::Views::stmt_views))]
     fn expr_stmt(&self, r: &mut Reader<'_>, from: u32) -> Result<Stmt, ParseError>
         requires shallow { self.now.at.depth ≤ 200 }
-        ensures { Reads stmt_tree (rule.expr_stmt self.now.at from r.old) result r.new }
+        ensures { Follows (rule.expr_stmt self.now.at from) r.old result r.new }
     {
         let value = self.optional_expr(r, Punct::Semicolon)?;
         r.expect(Punct::Semicolon)?;
@@ -84,7 +82,7 @@ impl<'a, S: Fn(Global, &TypeNames, &mut Reader<'_>, u32) -> Result<Stmt, ParseEr
     fn compound_stmt(&self, r: &mut Reader<'_>, t: &Token) -> Result<Stmt, ParseError>
         requires nests { NestsStmt self.now.at.depth (S.pre self.now.stmt) (S.post self.now.stmt) }
         requires shallow { self.now.at.depth ≤ 200 }
-        ensures { Reads stmt_tree (rule.compound_stmt self.now.at t.now r.old) result r.new }
+        ensures { Follows (rule.compound_stmt self.now.at t.now) r.old result r.new }
     {
         r.take(t);
         let items = self.block_items(r)?;
@@ -105,7 +103,7 @@ impl<'a, S: Fn(Global, &TypeNames, &mut Reader<'_>, u32) -> Result<Stmt, ParseEr
     ) -> Result<Stmt, ParseError>
         requires nests { NestsStmt self.now.at.depth (S.pre self.now.stmt) (S.post self.now.stmt) }
         requires shallow { self.now.at.depth ≤ 200 }
-        ensures { Reads stmt_tree (rule.keyword_stmt self.now.at t.now keyword r.old) result r.new }
+        ensures { Follows (rule.keyword_stmt self.now.at t.now keyword) r.old result r.new }
     {
         match keyword {
             Keyword::If => self.if_stmt(r, t),
@@ -126,7 +124,7 @@ impl<'a, S: Fn(Global, &TypeNames, &mut Reader<'_>, u32) -> Result<Stmt, ParseEr
     fn punct_stmt(&self, r: &mut Reader<'_>, t: &Token, punct: Punct) -> Result<Stmt, ParseError>
         requires nests { NestsStmt self.now.at.depth (S.pre self.now.stmt) (S.post self.now.stmt) }
         requires shallow { self.now.at.depth ≤ 200 }
-        ensures { Reads stmt_tree (rule.punct_stmt self.now.at t.now punct r.old) result r.new }
+        ensures { Follows (rule.punct_stmt self.now.at t.now punct) r.old result r.new }
     {
         match punct {
             Punct::LeftBrace => self.compound_stmt(r, t),
@@ -135,11 +133,11 @@ impl<'a, S: Fn(Global, &TypeNames, &mut Reader<'_>, u32) -> Result<Stmt, ParseEr
     }
 
     /// A statement whose parts are inside.
-    #[tactic(auto, unfolding(crate::specs::Reading::stmt_level))]
+    #[tactic(auto, unfolding(pa_file_grammar::specs::Reading::stmt_level))]
     fn stmt_level(&self, r: &mut Reader<'_>) -> Result<Stmt, ParseError>
         requires nests { NestsStmt self.now.at.depth (S.pre self.now.stmt) (S.post self.now.stmt) }
         requires shallow { self.now.at.depth ≤ 200 }
-        ensures { Reads stmt_tree (rule.stmt_level self.now.at r.old) result r.new }
+        ensures { Follows (rule.stmt_level self.now.at) r.old result r.new }
     {
         let Some(t) = r.peek() else {
             return Err(ParseError::Broken(SynRule::S1));
@@ -177,7 +175,7 @@ fn begins_stmt(names: &TypeNames, kind: &Kind) -> bool
 
 /// Refuses the next token where no statement has room.
 pub fn no_stmt(alloc: Global, names: &TypeNames, r: &mut Reader<'_>) -> Result<Stmt, ParseError>
-    ensures { Reads stmt_tree (parser.look (reading.no_stmt_at names.now) r.old) result r.new }
+    ensures { Follows (rule.no_stmt names.now) r.old result r.new }
 {
     let Some(t) = r.peek() else {
         return Err(ParseError::Broken(SynRule::S1));
@@ -190,7 +188,7 @@ pub fn no_stmt(alloc: Global, names: &TypeNames, r: &mut Reader<'_>) -> Result<S
 }
 
 /// A statement.
-#[tactic(auto, unfolding(crate::specs::Reading::stmt))]
+#[tactic(auto, unfolding(pa_file_grammar::specs::Reading::stmt))]
 pub fn stmt(
     alloc: Global,
     names: &TypeNames,
@@ -198,7 +196,7 @@ pub fn stmt(
     depth: u32,
 ) -> Result<Stmt, ParseError>
     requires { depth ≤ 200 }
-    ensures { Reads stmt_tree (reading.stmt names.now depth r.old) result r.new }
+    ensures { Follows (rule.statement names.now depth) r.old result r.new }
 {
     if depth == 0 {
         return no_stmt(alloc, names, r);

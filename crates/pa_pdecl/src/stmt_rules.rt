@@ -1,17 +1,15 @@
 //! What the rules of statements stand on, and the parts of a statement.
 
-ghost use Rattle.std.specs.Prelude.{◌≤◌, map};
-ghost use Rattle.std.specs.Option.{option_map};
-ghost use Rattle.pa_tree.specs.Views.{expr_tree, stmt_tree, block_item_tree, for_start_tree};
-ghost use Rattle.pa_grammar.specs.Reads.{Reads};
+ghost use Rattle.std.specs.Prelude.{◌≤◌};
 ghost use Rattle.pa_pdecl.specs.Nests.{NestsStmt};
 ghost use Rattle.pa_pdecl.specs.Rules as rule;
+ghost use Rattle.pa_grammar.specs.Rule.{Follows};
 
 use crate::declaration::block_declaration;
 use pa_grammar::{ParseError, Reader, TypeNames, begins_type};
 use pa_lex::Punct;
-use pa_pexpr::read_expr;
-use pa_pspec::At;
+use pa_parts::At;
+use pa_readers::read_expr;
 use pa_tree::{BlockItem, Expr, ForStart, Stmt};
 use sqlite_items::{Boxed, Items};
 use std::alloc::Global;
@@ -32,7 +30,7 @@ impl<'a, S: Fn(Global, &TypeNames, &mut Reader<'_>, u32) -> Result<Stmt, ParseEr
     /// A statement inside.
     pub fn stmt(&self, r: &mut Reader<'_>) -> Result<Stmt, ParseError>
         requires { NestsStmt self.now.at.depth (S.pre self.now.stmt) (S.post self.now.stmt) }
-        ensures { Reads stmt_tree (rule.stmt self.now.at r.old) result r.new }
+        ensures { Follows (rule.stmt self.now.at) r.old result r.new }
     {
         (self.stmt)(self.alloc, self.at.names, r, self.at.depth)
     }
@@ -40,7 +38,7 @@ impl<'a, S: Fn(Global, &TypeNames, &mut Reader<'_>, u32) -> Result<Stmt, ParseEr
     /// An expression inside.
     pub fn expr(&self, r: &mut Reader<'_>) -> Result<Expr, ParseError>
         requires { self.now.at.depth ≤ 200 }
-        ensures { Reads expr_tree (rule.expr self.now.at r.old) result r.new }
+        ensures { Follows (rule.expr self.now.at) r.old result r.new }
     {
         Ok(read_expr(self.alloc, self.at.names, r, self.at.depth, 0)?.tree)
     }
@@ -48,7 +46,7 @@ impl<'a, S: Fn(Global, &TypeNames, &mut Reader<'_>, u32) -> Result<Stmt, ParseEr
     /// An expression inside, or none where this punctuator comes next.
     pub fn optional_expr(&self, r: &mut Reader<'_>, stop: Punct) -> Result<Option<Expr>, ParseError>
         requires { self.now.at.depth ≤ 200 }
-        ensures { Reads (option_map expr_tree) (rule.optional_expr self.now.at stop r.old) result r.new }
+        ensures { Follows (rule.optional_expr self.now.at stop) r.old result r.new }
     {
         if r.sees(stop) {
             return Ok(None);
@@ -59,7 +57,7 @@ impl<'a, S: Fn(Global, &TypeNames, &mut Reader<'_>, u32) -> Result<Stmt, ParseEr
     /// An expression in parentheses.
     pub fn parenthesized(&self, r: &mut Reader<'_>) -> Result<Expr, ParseError>
         requires { self.now.at.depth ≤ 200 }
-        ensures { Reads expr_tree (rule.parenthesized self.now.at r.old) result r.new }
+        ensures { Follows (rule.parenthesized self.now.at) r.old result r.new }
     {
         r.expect(Punct::LeftParenthesis)?;
         let test = self.expr(r)?;
@@ -68,11 +66,11 @@ impl<'a, S: Fn(Global, &TypeNames, &mut Reader<'_>, u32) -> Result<Stmt, ParseEr
     }
 
     /// What a block holds: a declaration or a statement.
-    #[tactic(auto, using(pa_tree::proofs::Views::stmt_views), unfolding(crate::specs::Reading::item))]
+    #[tactic(auto, using(pa_tree::proofs::Views::stmt_views), unfolding(pa_file_grammar::specs::Reading::item))]
     fn block_item(&self, r: &mut Reader<'_>) -> Result<BlockItem, ParseError>
         requires nests { NestsStmt self.now.at.depth (S.pre self.now.stmt) (S.post self.now.stmt) }
         requires shallow { self.now.at.depth ≤ 200 }
-        ensures { Reads block_item_tree (rule.block_item self.now.at r.old) result r.new }
+        ensures { Follows (rule.block_item self.now.at) r.old result r.new }
     {
         let from = r.begin();
         if begins_type(self.at.names, r.peek()) {
@@ -93,11 +91,11 @@ impl<'a, S: Fn(Global, &TypeNames, &mut Reader<'_>, u32) -> Result<Stmt, ParseEr
     }
 
     /// All that a block holds.
-    #[tactic(auto, using(crate::proofs::Turns::items_turn, crate::proofs::Turns::item_shortens))]
+    #[tactic(auto, using(pa_file_grammar::proofs::Turns::items_turn, pa_file_grammar::proofs::Turns::item_shortens))]
     pub fn block_items(&self, r: &mut Reader<'_>) -> Result<Items<BlockItem>, ParseError>
         requires nests { NestsStmt self.now.at.depth (S.pre self.now.stmt) (S.post self.now.stmt) }
         requires shallow { self.now.at.depth ≤ 200 }
-        ensures { Reads (map block_item_tree) (rule.block_items self.now.at r.old) result r.new }
+        ensures { Follows (rule.block_items self.now.at) r.old result r.new }
     {
         let mut items = Items::new(self.alloc);
         'items: loop {
@@ -112,7 +110,7 @@ impl<'a, S: Fn(Global, &TypeNames, &mut Reader<'_>, u32) -> Result<Stmt, ParseEr
     /// The first part of a `for`, with its `;`.
     pub fn for_start(&self, r: &mut Reader<'_>) -> Result<ForStart, ParseError>
         requires { self.now.at.depth ≤ 200 }
-        ensures { Reads for_start_tree (rule.for_start self.now.at r.old) result r.new }
+        ensures { Follows (rule.for_start self.now.at) r.old result r.new }
     {
         let from = r.begin();
         if begins_type(self.at.names, r.peek()) {

@@ -4,12 +4,13 @@ ghost use Rattle.std.specs.Prelude.{◌≡◌, ◌≤◌, OnOk};
 ghost use Rattle.pa_tree.specs.Files as grammar;
 ghost use Rattle.pa_tree.specs.Views.{declarator_tree};
 ghost use Rattle.pa_pdecl.specs.Rules as rule;
+ghost use Rattle.pa_grammar.specs.Rule.{Follows};
 
 use crate::declaration::finished;
 use pa_grammar::{Naming, ParseError, Reader, TypeNames};
 use pa_lex::{NameNumber, Punct};
 use pa_num::Memory;
-use pa_pexpr::read_declarator;
+use pa_readers::read_declarator;
 use pa_tree::{Declarator, InitDeclarator, Storage};
 use sqlite_items::Items;
 use std::alloc::Global;
@@ -38,7 +39,7 @@ fn note(
     storage: Option<Storage>,
     declarator: &Declarator,
 ) -> Result<(), Memory>
-    ensures { OnOk result (names.new ≡ grammar.behind storage (declarator_tree declarator.now) names.old) }
+    ensures { OnOk result (names.new ≡ rule.names_behind storage declarator.now names.old) }
 {
     match storage {
         Some(Storage::Typedef) => match declared_name(declarator) {
@@ -60,7 +61,7 @@ fn noted(
     declarator: Declarator,
 ) -> Result<InitDeclarator, ParseError>
     requires { depth ≤ 200 }
-    ensures value { rule.ReadsDeclarator (rule.finished storage depth names.old from declarator r.old) result r.new }
+    ensures value { Follows (rule.rest storage depth names.old from declarator) r.old result r.new }
     ensures names { rule.NamesBehind storage names.old result names.new }
 {
     note(names, storage, &declarator)?;
@@ -68,7 +69,7 @@ fn noted(
 }
 
 /// A declarator with its initializer.
-#[tactic(auto, unfolding(crate::specs::Reading::init_declarator))]
+#[tactic(auto, unfolding(pa_file_grammar::specs::Reading::init_declarator))]
 fn another(
     alloc: Global,
     names: &mut TypeNames,
@@ -77,7 +78,7 @@ fn another(
     storage: Option<Storage>,
 ) -> Result<InitDeclarator, ParseError>
     requires { depth ≤ 200 }
-    ensures value { rule.ReadsDeclarator (rule.init_declarator storage depth names.old r.old) result r.new }
+    ensures value { Follows (rule.init_declarator storage depth names.old) r.old result r.new }
     ensures names { rule.NamesBehind storage names.old result names.new }
 {
     let from = r.begin();
@@ -86,7 +87,7 @@ fn another(
 }
 
 /// The rest of a declarator that begins at `from`, and further ones.
-#[tactic(auto, using(crate::proofs::Turns::declared_turn, crate::proofs::Turns::behind_snoc, crate::proofs::Turns::mark_shortens, crate::proofs::Turns::init_declarator_keeps))]
+#[tactic(auto, using(pa_file_grammar::proofs::Turns::declared_turn, pa_file_grammar::proofs::Turns::behind_snoc, pa_file_grammar::proofs::Turns::mark_shortens, pa_file_grammar::proofs::Turns::init_declarator_keeps))]
 pub fn declarators(
     alloc: Global,
     names: &mut TypeNames,
@@ -97,7 +98,7 @@ pub fn declarators(
     declarator: Declarator,
 ) -> Result<Items<InitDeclarator>, ParseError>
     requires { depth ≤ 200 }
-    ensures value { rule.ReadsDeclarators (rule.all_declared storage depth names.old from declarator r.old) result r.new }
+    ensures value { Follows (rule.list storage depth names.old from declarator) r.old result r.new }
     ensures names { rule.NamesBehindAll storage names.old result names.new }
 {
     let first = noted(alloc, names, r, depth, storage, from, declarator)?;

@@ -3,7 +3,7 @@
 ghost use Rattle.std.specs.Prelude.{◌≡◌};
 ghost use Rattle.pa_tree.specs.Cursors as cursors;
 ghost use Rattle.pa_grammar.specs.Reads.{Reads};
-ghost use Rattle.pa_pdecl.specs.Reading as reading;
+ghost use Rattle.pa_file_grammar.specs.Reading as reading;
 
 use pa_grammar::{ParseError, Reader, SynRule, is_word};
 use pa_lex::Keyword;

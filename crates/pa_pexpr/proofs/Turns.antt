@@ -9,10 +9,10 @@ use Rattle.pa_tree.specs.declared.expr.Expr.{Expr}
 use Rattle.pa_tree.specs.Views.{expr_tree, exprs_of}
 use Rattle.pa_grammar.specs.declared.rule.ParseError.{ParseError}
 use Rattle.pa_grammar.specs.Commas.{behind_comma}
-use Rattle.pa_pspec.specs.declared.measured.Measured.{Measured}
-use Rattle.pa_pspec.specs.Measures.{Gives}
-use Rattle.pa_pspec.specs.Trees as tree
+use Rattle.pa_parts.specs.declared.measured.Measured.{Measured}
+use Rattle.pa_parts.specs.Nonterminals as nonterminal
 use Rattle.pa_grammar.specs.Parser.{Parser, and_then, goes, iterate, mark, sees, many, item_step}
+use Rattle.pa_grammar.specs.Rule.{Follows}
 use Rattle.pa_grammar.specs.Reading.{Parsers, text_step, parsers, next, turn, last, climb}
 use Rattle.pa_grammar.proofs.Meets.{IfRead}
 use Rattle.pa_grammar.proofs.Iterated.{one_turn}
@@ -37,7 +37,7 @@ module _ (names : List ℕ) (d : ℕ) where
   pub argument_fewer : (t : ExprTree) (c e : Cursor) → argument c ≡ Ok (t, e) → length e.ahead < length c.ahead
   argument_fewer t c e h = let f = (argument-eats.holds c).holds in rw h at f
 
-pub next_fewer : (names : List ℕ) (d : ℕ) (old middle new : Cursor) (r : Result (Measured Expr) ParseError) → mark p.Comma old ≡ Ok (tt, middle) → Gives tree.expr ((parsers names d).expr 1 middle) r new → OnOk r (length new.ahead < length old.ahead)
+pub next_fewer : (names : List ℕ) (d : ℕ) (old middle new : Cursor) (r : Result (Measured Expr) ParseError) → mark p.Comma old ≡ Ok (tt, middle) → Follows (nonterminal.expr names d 1) middle r new → OnOk r (length new.ahead < length old.ahead)
 next_fewer names d old middle new (Ok q) m h = argument_fewer names d (expr_tree q.tree) old new (then_is (mark p.Comma) ((parsers names d).expr 1) old middle tt (Ok (expr_tree q.tree, new)) m h)
 next_fewer names d old middle new (Err e) m h = tt
 

@@ -3,14 +3,15 @@
 ghost use Rattle.std.specs.Prelude.{◌≡◌, ◌≤◌, ◌<◌, length, OnOk};
 ghost use Rattle.pa_tree.specs.Heights.{expr_height};
 ghost use Rattle.pa_tree.specs.Views.{expr_tree};
-ghost use Rattle.pa_pspec.specs.Measures.{Gives, Measures};
-ghost use Rattle.pa_pspec.specs.Trees as tree;
+ghost use Rattle.pa_parts.specs.Measures.{Measures};
+ghost use Rattle.pa_parts.specs.Trees as tree;
 ghost use Rattle.pa_pexpr.specs.Rules as rule;
+ghost use Rattle.pa_grammar.specs.Rule.{Follows};
 
 use crate::expr_rules::ExprRules;
 use pa_grammar::{ParseError, Reader};
 use pa_lex::Punct;
-use pa_pspec::{Measured, Parts};
+use pa_parts::{Measured, Parts};
 use pa_tree::Expr;
 use sqlite_items::Items;
 
@@ -18,7 +19,7 @@ impl<'a, P: Parts> ExprRules<'a, P> {
     /// A comma and an argument behind it.
     fn next_argument(&self, r: &mut Reader<'_>) -> Result<Measured<Expr>, ParseError>
         requires exprs { P.reads_exprs self.now.parts self.now.at.depth }
-        ensures value { Gives tree.expr (rule.next_argument self.now.at r.old) result r.new }
+        ensures value { Follows (rule.next_argument self.now.at) r.old result r.new }
         ensures measured { Measures tree.expr self.now.at.depth result }
         ensures fewer { OnOk result (length r.new.ahead < length r.old.ahead) }
     {
@@ -36,7 +37,7 @@ impl<'a, P: Parts> ExprRules<'a, P> {
         requires exprs { P.reads_exprs self.now.parts self.now.at.depth }
         requires first_height { first.height ≡ expr_height (expr_tree first.tree) }
         requires first_fits { first.height ≤ self.now.at.depth }
-        ensures value { Gives tree.exprs (rule.more_arguments self.now.at first.tree r.old) result r.new }
+        ensures value { Follows (rule.more_arguments self.now.at first) r.old result r.new }
         ensures measured { Measures tree.exprs self.now.at.depth result }
     {
         let mut height = first.height;
@@ -55,7 +56,7 @@ impl<'a, P: Parts> ExprRules<'a, P> {
     /// The arguments of a call, if any, and their greatest height.
     pub fn arguments(&self, r: &mut Reader<'_>) -> Result<Measured<Items<Expr>>, ParseError>
         requires exprs { P.reads_exprs self.now.parts self.now.at.depth }
-        ensures value { Gives tree.exprs (rule.arguments self.now.at r.old) result r.new }
+        ensures value { Follows (rule.arguments self.now.at) r.old result r.new }
         ensures measured { Measures tree.exprs self.now.at.depth result }
     {
         if r.sees(Punct::RightParenthesis) {

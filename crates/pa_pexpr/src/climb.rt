@@ -3,17 +3,18 @@
 ghost use Rattle.std.specs.Prelude.{◌≡◌, ◌≤◌, suc, Ok};
 ghost use Rattle.pa_tree.specs.Heights.{expr_height};
 ghost use Rattle.pa_tree.specs.Views.{expr_tree};
-ghost use Rattle.pa_pspec.specs.Measures.{Gives, Measures};
-ghost use Rattle.pa_pspec.specs.Trees as tree;
+ghost use Rattle.pa_parts.specs.Measures.{Measures};
+ghost use Rattle.pa_parts.specs.Trees as tree;
 ghost use Rattle.pa_pexpr.specs.Rules as rule;
 ghost use Rattle.pa_pexpr.specs.Shown.{next_shown};
 ghost use Rattle.pa_grammar.specs.Reading as reading;
+ghost use Rattle.pa_grammar.specs.Rule.{Follows};
 
 use crate::expr_rules::ExprRules;
 use crate::infix::{Infix, tree_level};
 use pa_grammar::{ParseError, Reader, SynRule, needs, plain_name};
 use pa_lex::{Kind, Punct, Token};
-use pa_pspec::{Measured, Parts};
+use pa_parts::{Measured, Parts};
 use pa_tree::{BinaryOperator, COND_LEVEL, Expr, Step, UNARY_LEVEL};
 use sqlite_items::Boxed;
 
@@ -48,7 +49,7 @@ impl<'a, P: Parts> ExprRules<'a, P> {
         requires shallow { self.now.at.depth ≤ 200 }
         requires left_height { left.height ≡ expr_height (expr_tree left.tree) }
         requires left_fits { left.height ≤ self.now.at.depth }
-        ensures value { Gives tree.expr (rule.binary self.now.at from left.tree op r.old) result r.new }
+        ensures value { Follows (rule.binary self.now.at from left op) r.old result r.new }
         ensures measured { Measures tree.expr (suc self.now.at.depth) result }
     {
         let right = self.expr(r, op.right_level())?;
@@ -75,7 +76,7 @@ impl<'a, P: Parts> ExprRules<'a, P> {
         requires shallow { self.now.at.depth ≤ 200 }
         requires test_height { test.height ≡ expr_height (expr_tree test.tree) }
         requires test_fits { test.height ≤ self.now.at.depth }
-        ensures value { Gives tree.expr (rule.conditional self.now.at from test.tree r.old) result r.new }
+        ensures value { Follows (rule.conditional self.now.at from test) r.old result r.new }
         ensures measured { Measures tree.expr (suc self.now.at.depth) result }
     {
         let Measured {
@@ -117,7 +118,7 @@ impl<'a, P: Parts> ExprRules<'a, P> {
         requires shallow { self.now.at.depth ≤ 200 }
         requires of_height { of.height ≡ expr_height (expr_tree of.tree) }
         requires of_fits { of.height ≤ self.now.at.depth }
-        ensures value { Gives tree.expr (rule.index self.now.at from of.tree r.old) result r.new }
+        ensures value { Follows (rule.index self.now.at from of) r.old result r.new }
         ensures measured { Measures tree.expr (suc self.now.at.depth) result }
     {
         let at = self.expr(r, 0)?;
@@ -143,7 +144,7 @@ impl<'a, P: Parts> ExprRules<'a, P> {
         requires shallow { self.now.at.depth ≤ 200 }
         requires of_height { of.height ≡ expr_height (expr_tree of.tree) }
         requires of_fits { of.height ≤ self.now.at.depth }
-        ensures value { Gives tree.expr (rule.dot self.now.at from of.tree r.old) result r.new }
+        ensures value { Follows (rule.dot self.now.at from of) r.old result r.new }
         ensures measured { Measures tree.expr (suc self.now.at.depth) result }
     {
         let member = plain_name(self.at.names, r)?.name;
@@ -168,7 +169,7 @@ impl<'a, P: Parts> ExprRules<'a, P> {
         requires shallow { self.now.at.depth ≤ 200 }
         requires of_height { of.height ≡ expr_height (expr_tree of.tree) }
         requires of_fits { of.height ≤ self.now.at.depth }
-        ensures value { Gives tree.expr (rule.arrow self.now.at from of.tree r.old) result r.new }
+        ensures value { Follows (rule.arrow self.now.at from of) r.old result r.new }
         ensures measured { Measures tree.expr (suc self.now.at.depth) result }
     {
         let member = plain_name(self.at.names, r)?.name;
@@ -194,7 +195,7 @@ impl<'a, P: Parts> ExprRules<'a, P> {
         requires shallow { self.now.at.depth ≤ 200 }
         requires of_height { of.height ≡ expr_height (expr_tree of.tree) }
         requires of_fits { of.height ≤ self.now.at.depth }
-        ensures value { Gives tree.expr (rule.stepped self.now.at from of.tree op r.old) result r.new }
+        ensures value { Follows (rule.stepped self.now.at from of op) r.old result r.new }
         ensures measured { Measures tree.expr (suc self.now.at.depth) result }
     {
         let height = of.height;
@@ -219,7 +220,7 @@ impl<'a, P: Parts> ExprRules<'a, P> {
         requires shallow { self.now.at.depth ≤ 200 }
         requires of_height { of.height ≡ expr_height (expr_tree of.tree) }
         requires of_fits { of.height ≤ self.now.at.depth }
-        ensures value { Gives tree.expr (rule.call self.now.at from of.tree r.old) result r.new }
+        ensures value { Follows (rule.call self.now.at from of) r.old result r.new }
         ensures measured { Measures tree.expr (suc self.now.at.depth) result }
     {
         let arguments = self.arguments(r)?;
@@ -246,7 +247,7 @@ impl<'a, P: Parts> ExprRules<'a, P> {
         requires exprs { P.reads_exprs self.now.parts self.now.at.depth }
         requires shallow { self.now.at.depth ≤ 200 }
         requires left_height { left.height ≡ expr_height (expr_tree left.tree) }
-        ensures value { Gives tree.expr (rule.operator self.now.at from left.tree op t.now r.old) result r.new }
+        ensures value { Follows (rule.operator self.now.at from left op t.now) r.old result r.new }
         ensures measured { Measures tree.expr (suc self.now.at.depth) result }
     {
         needs(left.height, self.at.depth)?;
@@ -275,7 +276,7 @@ impl<'a, P: Parts> ExprRules<'a, P> {
         requires shallow { self.now.at.depth ≤ 200 }
         requires first_height { first.height ≡ expr_height (expr_tree first.tree) }
         requires first_fits { first.height ≤ suc self.now.at.depth }
-        ensures value { Gives tree.expr (rule.climb self.now.at from level first.tree r.old) result r.new }
+        ensures value { Follows (rule.climb self.now.at from level first) r.old result r.new }
         ensures measured { Measures tree.expr (suc self.now.at.depth) result }
     {
         let mut left = first;
@@ -297,7 +298,7 @@ impl<'a, P: Parts> ExprRules<'a, P> {
         requires exprs { P.reads_exprs self.now.parts self.now.at.depth }
         requires types { P.reads_types self.now.parts self.now.at.depth }
         requires shallow { self.now.at.depth ≤ 200 }
-        ensures value { Gives tree.expr (rule.expr_level self.now.at level r.old) result r.new }
+        ensures value { Follows (rule.expr_level self.now.at level) r.old result r.new }
         ensures measured { Measures tree.expr (suc self.now.at.depth) result }
     {
         let from = r.begin();
@@ -310,7 +311,7 @@ impl<'a, P: Parts> ExprRules<'a, P> {
     pub fn opened_level(&self, r: &mut Reader<'_>, from: u32) -> Result<Measured<Expr>, ParseError>
         requires exprs { P.reads_exprs self.now.parts self.now.at.depth }
         requires shallow { self.now.at.depth ≤ 200 }
-        ensures value { Gives tree.expr (rule.opened_level self.now.at from r.old) result r.new }
+        ensures value { Follows (rule.opened_level self.now.at from) r.old result r.new }
         ensures measured { Measures tree.expr (suc self.now.at.depth) result }
     {
         let first = self.paren(r, from)?;

@@ -1,11 +1,12 @@
 //! What the rules of expressions stand on.
 
-ghost use Rattle.pa_pspec.specs.Measures.{Gives, Measures};
-ghost use Rattle.pa_pspec.specs.Trees as tree;
+ghost use Rattle.pa_parts.specs.Measures.{Measures};
+ghost use Rattle.pa_parts.specs.Trees as tree;
 ghost use Rattle.pa_pexpr.specs.Rules as rule;
+ghost use Rattle.pa_grammar.specs.Rule.{Follows};
 
 use pa_grammar::{Naming, ParseError, Reader};
-use pa_pspec::{At, Measured, Parts};
+use pa_parts::{At, Measured, Parts};
 use pa_tree::{Expr, TypeName};
 use std::alloc::Global;
 
@@ -21,7 +22,7 @@ impl<'a, P: Parts> ExprRules<'a, P> {
     /// An expression of this level.
     pub fn expr(&self, r: &mut Reader<'_>, level: u8) -> Result<Measured<Expr>, ParseError>
         requires exprs { P.reads_exprs self.now.parts self.now.at.depth }
-        ensures value { Gives tree.expr (rule.expr self.now.at level r.old) result r.new }
+        ensures value { Follows (rule.expr self.now.at level) r.old result r.new }
         ensures measured { Measures tree.expr self.now.at.depth result }
     {
         self.parts
@@ -31,7 +32,7 @@ impl<'a, P: Parts> ExprRules<'a, P> {
     /// A unary expression whose `(`, at `from`, is read.
     pub fn opened(&self, r: &mut Reader<'_>, from: u32) -> Result<Measured<Expr>, ParseError>
         requires exprs { P.reads_exprs self.now.parts self.now.at.depth }
-        ensures value { Gives tree.expr (rule.opened self.now.at from r.old) result r.new }
+        ensures value { Follows (rule.opened self.now.at from) r.old result r.new }
         ensures measured { Measures tree.expr self.now.at.depth result }
     {
         self.parts
@@ -42,7 +43,7 @@ impl<'a, P: Parts> ExprRules<'a, P> {
     #[tactic(auto, using(pa_tree::proofs::Views::expr_views), unfolding(pa_grammar::specs::Reading::type_name))]
     pub fn type_name(&self, r: &mut Reader<'_>) -> Result<Measured<TypeName>, ParseError>
         requires types { P.reads_types self.now.parts self.now.at.depth }
-        ensures value { Gives tree.type_name (rule.type_name self.now.at r.old) result r.new }
+        ensures value { Follows (rule.type_name self.now.at) r.old result r.new }
         ensures measured { Measures tree.type_name self.now.at.depth result }
     {
         let from = r.begin();

@@ -1,8 +1,6 @@
 pub mod Bodies
 pub mod Counted
-pub mod Measures
-pub mod Nests
+pub mod Lists
 pub mod Rules
 pub mod Suffixes
-pub mod Trees
 pub mod Voids

@@ -5,16 +5,17 @@ ghost use Rattle.std.specs.Prelude.{◌≡◌, ◌≤◌, suc};
 ghost use Rattle.pa_tree.specs.Cursors as cursors;
 ghost use Rattle.pa_tree.specs.Heights.{declarator_height, enumerator_height, member_height};
 ghost use Rattle.pa_tree.specs.Views.{declarator_tree, enumerator_tree, member_tree};
-ghost use Rattle.pa_pspec.specs.Measures.{Gives, Measures, ReadsStep, MeasuresNext};
+ghost use Rattle.pa_parts.specs.Measures.{Measures};
+ghost use Rattle.pa_pspec.specs.Lists.{MeasuresNext, ReadsStep};
 ghost use Rattle.pa_pspec.specs.Rules as rule;
-ghost use Rattle.pa_pspec.specs.Trees as tree;
+ghost use Rattle.pa_parts.specs.Trees as tree;
 ghost use Rattle.pa_grammar.specs.Reading as reading;
+ghost use Rattle.pa_grammar.specs.Rule.{Follows};
 
-use crate::measured::Measured;
-use crate::parts::Parts;
 use crate::type_rules::TypeRules;
 use pa_grammar::{Naming, ParseError, Reader, plain_name};
 use pa_lex::Punct;
+use pa_parts::{Measured, Parts};
 use pa_tree::{Base, COND_LEVEL, Declarator, Enumerator, Expr, Member, Tag};
 use sqlite_items::{Boxed, Items};
 
@@ -29,7 +30,7 @@ impl<'a, P: Parts> TypeRules<'a, P> {
     /// One more declarator of a member, behind a comma.
     fn next_declarator(&self, r: &mut Reader<'_>) -> Result<Measured<Declarator>, ParseError>
         requires types { P.reads_types self.now.parts self.now.at.depth }
-        ensures value { Gives tree.declarator (rule.next_declarator self.now.at r.old) result r.new }
+        ensures value { Follows (rule.next_declarator self.now.at) r.old result r.new }
         ensures measured { Measures tree.declarator self.now.at.depth result }
     {
         r.expect(Punct::Comma)?;
@@ -45,7 +46,7 @@ impl<'a, P: Parts> TypeRules<'a, P> {
         requires types { P.reads_types self.now.parts self.now.at.depth }
         requires first_height { first.height ≡ declarator_height (declarator_tree first.tree) }
         requires first_fits { first.height ≤ self.now.at.depth }
-        ensures value { Gives tree.declarators (rule.more_declarators self.now.at first.tree r.old) result r.new }
+        ensures value { Follows (rule.more_declarators self.now.at first) r.old result r.new }
         ensures measured { Measures tree.declarators self.now.at.depth result }
     {
         let mut height = first.height;
@@ -63,7 +64,7 @@ impl<'a, P: Parts> TypeRules<'a, P> {
     #[tactic(auto, using(pa_tree::proofs::Views::expr_views), unfolding(pa_grammar::specs::Reading::member))]
     fn member(&self, r: &mut Reader<'_>) -> Result<Measured<Member>, ParseError>
         requires types { P.reads_types self.now.parts self.now.at.depth }
-        ensures value { Gives tree.member (rule.member self.now.at r.old) result r.new }
+        ensures value { Follows (rule.member self.now.at) r.old result r.new }
         ensures measured { Measures tree.member self.now.at.depth result }
     {
         let from = r.begin();
@@ -90,7 +91,7 @@ impl<'a, P: Parts> TypeRules<'a, P> {
         requires types { P.reads_types self.now.parts self.now.at.depth }
         requires first_height { first.height ≡ member_height (member_tree first.tree) }
         requires first_fits { first.height ≤ self.now.at.depth }
-        ensures value { Gives tree.members (rule.more_members self.now.at first.tree r.old) result r.new }
+        ensures value { Follows (rule.more_members self.now.at first) r.old result r.new }
         ensures measured { Measures tree.members self.now.at.depth result }
     {
         let mut height = first.height;
@@ -114,7 +115,7 @@ impl<'a, P: Parts> TypeRules<'a, P> {
     ) -> Result<Measured<Base>, ParseError>
         requires types { P.reads_types self.now.parts self.now.at.depth }
         requires shallow { self.now.at.depth ≤ 200 }
-        ensures value { Gives tree.base (rule.struct_body self.now.at from tag r.old) result r.new }
+        ensures value { Follows (rule.struct_body self.now.at from tag) r.old result r.new }
         ensures measured { Measures tree.base (suc self.now.at.depth) result }
     {
         r.expect(Punct::LeftBrace)?;
@@ -134,7 +135,7 @@ impl<'a, P: Parts> TypeRules<'a, P> {
     /// The value of an enumeration constant, if one is written, and its height.
     fn value(&self, r: &mut Reader<'_>) -> Result<Measured<Option<Boxed<Expr>>>, ParseError>
         requires exprs { P.reads_exprs self.now.parts self.now.at.depth }
-        ensures value { Gives tree.maybe_expr (rule.value self.now.at r.old) result r.new }
+        ensures value { Follows (rule.value self.now.at) r.old result r.new }
         ensures measured { Measures tree.maybe_expr self.now.at.depth result }
     {
         if !r.sees(Punct::Assign) {
@@ -156,7 +157,7 @@ impl<'a, P: Parts> TypeRules<'a, P> {
     fn enumerator(&self, r: &mut Reader<'_>) -> Result<Measured<Enumerator>, ParseError>
         requires exprs { P.reads_exprs self.now.parts self.now.at.depth }
         requires room { 1 ≤ self.now.at.depth }
-        ensures value { Gives tree.enumerator (rule.enumerator self.now.at r.old) result r.new }
+        ensures value { Follows (rule.enumerator self.now.at) r.old result r.new }
         ensures measured { Measures tree.enumerator self.now.at.depth result }
     {
         let from = r.begin();
@@ -203,7 +204,7 @@ impl<'a, P: Parts> TypeRules<'a, P> {
         requires room { 1 ≤ self.now.at.depth }
         requires first_height { first.height ≡ enumerator_height (enumerator_tree first.tree) }
         requires first_fits { first.height ≤ self.now.at.depth }
-        ensures value { Gives tree.enumerators (rule.more_enumerators self.now.at first.tree r.old) result r.new }
+        ensures value { Follows (rule.more_enumerators self.now.at first) r.old result r.new }
         ensures measured { Measures tree.enumerators self.now.at.depth result }
     {
         let mut height = first.height;
@@ -230,7 +231,7 @@ impl<'a, P: Parts> TypeRules<'a, P> {
         requires exprs { P.reads_exprs self.now.parts self.now.at.depth }
         requires room { 1 ≤ self.now.at.depth }
         requires shallow { self.now.at.depth ≤ 200 }
-        ensures value { Gives tree.base (rule.enum_body self.now.at from tag r.old) result r.new }
+        ensures value { Follows (rule.enum_body self.now.at from tag) r.old result r.new }
         ensures measured { Measures tree.base (suc self.now.at.depth) result }
     {
         r.expect(Punct::LeftBrace)?;

@@ -4,17 +4,17 @@ ghost use Rattle.std.specs.Prelude.{◌≡◌, ◌≤◌, ◌<◌, suc, IfOk};
 ghost use Rattle.pa_tree.specs.Cursors as cursors;
 ghost use Rattle.pa_tree.specs.Heights.{declarator_height};
 ghost use Rattle.pa_tree.specs.Views.{declarator_tree};
-ghost use Rattle.pa_pspec.specs.Measures.{Gives, Measures};
+ghost use Rattle.pa_parts.specs.Measures.{Measures};
 ghost use Rattle.pa_pspec.specs.Rules as rule;
-ghost use Rattle.pa_pspec.specs.Suffixes.{absent_at, suffix_ahead, suffix_shown};
-ghost use Rattle.pa_pspec.specs.Trees as tree;
+ghost use Rattle.pa_pspec.specs.Suffixes.{suffix_ahead, suffix_shown};
+ghost use Rattle.pa_parts.specs.Trees as tree;
 ghost use Rattle.pa_grammar.specs.Reading as reading;
+ghost use Rattle.pa_grammar.specs.Rule.{Follows};
 
-use crate::measured::Measured;
-use crate::parts::Parts;
 use crate::type_rules::TypeRules;
 use pa_grammar::{Naming, ParseError, Reader, SynRule, TypeNames, begins_type, is_mark, needs};
 use pa_lex::{Kind, NameNumber, Punct, Token};
+use pa_parts::{Measured, Parts};
 use pa_tree::{COND_LEVEL, Declarator, Expr};
 use sqlite_items::Boxed;
 
@@ -40,7 +40,7 @@ fn next_suffix<'t>(r: &Reader<'t>) -> Option<(Suffix, &'t Token)>
 /// A declarator without a name, at this place, or the rule that wants one.
 #[tactic(auto, using(pa_tree::proofs::Views::expr_views))]
 fn absent(end: u32, name: Naming) -> Result<Measured<Declarator>, ParseError>
-    ensures value { (c : _) → Gives tree.declarator (absent_at name end c) result c }
+    ensures value { (c : _) → Follows (rule.absent name end) c result c }
     ensures measured { Measures tree.declarator 0 result }
 {
     if !name.takes_none() {
@@ -71,7 +71,7 @@ pub fn bare_declarator(
     r: &Reader<'_>,
     name: Naming,
 ) -> Result<Measured<Declarator>, ParseError>
-    ensures value { Gives tree.declarator (reading.bare_declarator names.now name r.now) result r.now }
+    ensures value { Follows (rule.bare_declarator names.now name) r.now result r.now }
     ensures measured { Measures tree.declarator 0 result }
 {
     match r.peek() {
@@ -86,7 +86,7 @@ impl<'a, P: Parts> TypeRules<'a, P> {
     /// The length of an array, if one is written, and its height.
     fn array_length(&self, r: &mut Reader<'_>) -> Result<Measured<Option<Boxed<Expr>>>, ParseError>
         requires exprs { P.reads_exprs self.now.parts self.now.at.depth }
-        ensures value { Gives tree.maybe_expr (rule.array_length self.now.at r.old) result r.new }
+        ensures value { Follows (rule.array_length self.now.at) r.old result r.new }
         ensures measured { Measures tree.maybe_expr self.now.at.depth result }
     {
         if r.sees(Punct::RightBracket) {
@@ -114,7 +114,7 @@ impl<'a, P: Parts> TypeRules<'a, P> {
         requires shallow { self.now.at.depth ≤ 200 }
         requires of_height { of.height ≡ declarator_height (declarator_tree of.tree) }
         requires of_fits { of.height ≤ self.now.at.depth }
-        ensures value { Gives tree.declarator (rule.array self.now.at from of.tree r.old) result r.new }
+        ensures value { Follows (rule.array self.now.at from of) r.old result r.new }
         ensures measured { Measures tree.declarator (suc self.now.at.depth) result }
         ensures taller { IfOk result (λ m. of.height < m.height) }
     {
@@ -142,7 +142,7 @@ impl<'a, P: Parts> TypeRules<'a, P> {
         requires shallow { self.now.at.depth ≤ 200 }
         requires of_height { of.height ≡ declarator_height (declarator_tree of.tree) }
         requires of_fits { of.height ≤ self.now.at.depth }
-        ensures value { Gives tree.declarator (rule.function self.now.at from of.tree r.old) result r.new }
+        ensures value { Follows (rule.function self.now.at from of) r.old result r.new }
         ensures measured { Measures tree.declarator (suc self.now.at.depth) result }
         ensures taller { IfOk result (λ m. of.height < m.height) }
     {
@@ -171,7 +171,7 @@ impl<'a, P: Parts> TypeRules<'a, P> {
         requires types { P.reads_types self.now.parts self.now.at.depth }
         requires shallow { self.now.at.depth ≤ 200 }
         requires of_height { of.height ≡ declarator_height (declarator_tree of.tree) }
-        ensures value { Gives tree.declarator (rule.suffix self.now.at suffix from of.tree t.now r.old) result r.new }
+        ensures value { Follows (rule.suffix self.now.at suffix from of t.now) r.old result r.new }
         ensures measured { Measures tree.declarator (suc self.now.at.depth) result }
         ensures taller { IfOk result (λ m. of.height < m.height) }
     {
@@ -195,7 +195,7 @@ impl<'a, P: Parts> TypeRules<'a, P> {
         requires shallow { self.now.at.depth ≤ 200 }
         requires first_height { first.height ≡ declarator_height (declarator_tree first.tree) }
         requires first_fits { first.height ≤ suc self.now.at.depth }
-        ensures value { Gives tree.declarator (rule.suffixes self.now.at from first.tree r.old) result r.new }
+        ensures value { Follows (rule.suffixes self.now.at from first) r.old result r.new }
         ensures measured { Measures tree.declarator (suc self.now.at.depth) result }
     {
         let mut whole = first;
@@ -222,7 +222,7 @@ impl<'a, P: Parts> TypeRules<'a, P> {
         requires exprs { P.reads_exprs self.now.parts self.now.at.depth }
         requires types { P.reads_types self.now.parts self.now.at.depth }
         requires shallow { self.now.at.depth ≤ 200 }
-        ensures value { Gives tree.declarator (rule.pointer self.now.at name from r.old) result r.new }
+        ensures value { Follows (rule.pointer self.now.at name from) r.old result r.new }
         ensures measured { Measures tree.declarator (suc self.now.at.depth) result }
     {
         let qualifiers = self.qualifiers(r)?;
@@ -247,7 +247,7 @@ impl<'a, P: Parts> TypeRules<'a, P> {
     ) -> Result<Measured<Declarator>, ParseError>
         requires types { P.reads_types self.now.parts self.now.at.depth }
         requires shallow { self.now.at.depth ≤ 200 }
-        ensures value { Gives tree.declarator (rule.grouped self.now.at name from r.old) result r.new }
+        ensures value { Follows (rule.grouped self.now.at name from) r.old result r.new }
         ensures measured { Measures tree.declarator (suc self.now.at.depth) result }
     {
         let inner = self.declarator(r, name)?;
@@ -272,7 +272,7 @@ impl<'a, P: Parts> TypeRules<'a, P> {
     ) -> Result<Measured<Declarator>, ParseError>
         requires types { P.reads_types self.now.parts self.now.at.depth }
         requires shallow { self.now.at.depth ≤ 200 }
-        ensures value { Gives tree.declarator (rule.bracketed self.now.at name from end r.old) result r.new }
+        ensures value { Follows (rule.bracketed self.now.at name from end) r.old result r.new }
         ensures measured { Measures tree.declarator (suc self.now.at.depth) result }
     {
         let parameters = begins_type(self.at.names, r.peek()) || r.sees(Punct::RightParenthesis);
@@ -298,7 +298,7 @@ impl<'a, P: Parts> TypeRules<'a, P> {
         requires exprs { P.reads_exprs self.now.parts self.now.at.depth }
         requires types { P.reads_types self.now.parts self.now.at.depth }
         requires shallow { self.now.at.depth ≤ 200 }
-        ensures value { Gives tree.declarator (rule.marked_declarator self.now.at name t.now end r.old) result r.new }
+        ensures value { Follows (rule.marked self.now.at name t.now end) r.old result r.new }
         ensures measured { Measures tree.declarator (suc self.now.at.depth) result }
     {
         if is_mark(&t.kind, Punct::LeftParenthesis) {
@@ -330,7 +330,7 @@ impl<'a, P: Parts> TypeRules<'a, P> {
         requires exprs { P.reads_exprs self.now.parts self.now.at.depth }
         requires types { P.reads_types self.now.parts self.now.at.depth }
         requires shallow { self.now.at.depth ≤ 200 }
-        ensures value { Gives tree.declarator (rule.named_declarator self.now.at name t.now end n r.old) result r.new }
+        ensures value { Follows (rule.named self.now.at name t.now end n) r.old result r.new }
         ensures measured { Measures tree.declarator (suc self.now.at.depth) result }
     {
         if name.takes_name() && !self.at.names.contains(n) {
@@ -355,7 +355,7 @@ impl<'a, P: Parts> TypeRules<'a, P> {
         requires exprs { P.reads_exprs self.now.parts self.now.at.depth }
         requires types { P.reads_types self.now.parts self.now.at.depth }
         requires shallow { self.now.at.depth ≤ 200 }
-        ensures value { Gives tree.declarator (rule.declarator_level self.now.at name r.old) result r.new }
+        ensures value { Follows (rule.declarator_level self.now.at name) r.old result r.new }
         ensures measured { Measures tree.declarator (suc self.now.at.depth) result }
     {
         let end = r.ended();

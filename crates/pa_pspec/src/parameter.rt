@@ -1,19 +1,19 @@
 //! The parts of a function's declarator (C11 6.7.6.3).
 
-ghost use Rattle.std.specs.Prelude.{◌≡◌, ◌≤◌, ◌∷◌, [], map, length, ◌==◌};
+ghost use Rattle.std.specs.Prelude.{◌≡◌, ◌≤◌, map, length, ◌==◌};
 ghost use Rattle.pa_tree.specs.Heights.{parameter_height};
 ghost use Rattle.pa_tree.specs.Spells as grammar;
 ghost use Rattle.pa_tree.specs.Views.{base_tree, declarator_tree, parameter_tree, parameters_of};
-ghost use Rattle.pa_pspec.specs.Measures.{Gives, Measures};
+ghost use Rattle.pa_parts.specs.Measures.{Measures};
 ghost use Rattle.pa_pspec.specs.Rules as rule;
-ghost use Rattle.pa_pspec.specs.Trees as tree;
-ghost use Rattle.pa_pspec.specs.Voids.{is_void_tree, is_absent_tree};
+ghost use Rattle.pa_parts.specs.Trees as tree;
+ghost use Rattle.pa_pspec.specs.Voids.{is_void_tree, is_absent_tree, is_lone_void};
+ghost use Rattle.pa_grammar.specs.Rule.{Follows};
 
-use crate::measured::Measured;
-use crate::parts::Parts;
 use crate::type_rules::TypeRules;
 use pa_grammar::{Naming, ParseError, Reader};
 use pa_lex::Punct;
+use pa_parts::{Measured, Parts};
 use pa_tree::{Base, Declarator, Parameter, Parameters, Qualifier};
 use sqlite_items::Items;
 
@@ -59,7 +59,7 @@ fn is_absent(declarator: &Declarator) -> bool
 /// The parameter is `void` alone: no qualifier beside it, and no declarator.
 #[tactic(auto, using(crate::proofs::Voids::lone_void))]
 fn is_lone_void(parameter: &Parameter) -> bool
-    ensures { result ≡ grammar.is_only_void (parameters_of (parameter_tree parameter.now ∷ [])) }
+    ensures { result ≡ is_lone_void (parameter_tree parameter.now) }
 {
     are_none(&parameter.specs.before)
         && is_void(&parameter.specs.base)
@@ -82,7 +82,7 @@ impl<'a, P: Parts> TypeRules<'a, P> {
     #[tactic(auto, using(pa_tree::proofs::Views::expr_views), unfolding(pa_grammar::specs::Reading::parameter))]
     fn parameter(&self, r: &mut Reader<'_>) -> Result<Measured<Parameter>, ParseError>
         requires types { P.reads_types self.now.parts self.now.at.depth }
-        ensures value { Gives tree.parameter (rule.parameter self.now.at r.old) result r.new }
+        ensures value { Follows (rule.parameter self.now.at) r.old result r.new }
         ensures measured { Measures tree.parameter self.now.at.depth result }
     {
         let from = r.begin();
@@ -101,7 +101,7 @@ impl<'a, P: Parts> TypeRules<'a, P> {
     /// One more parameter, behind a comma.
     fn next_parameter(&self, r: &mut Reader<'_>) -> Result<Measured<Parameter>, ParseError>
         requires types { P.reads_types self.now.parts self.now.at.depth }
-        ensures value { Gives tree.parameter (rule.next_parameter self.now.at r.old) result r.new }
+        ensures value { Follows (rule.next_parameter self.now.at) r.old result r.new }
         ensures measured { Measures tree.parameter self.now.at.depth result }
     {
         r.expect(Punct::Comma)?;
@@ -117,7 +117,7 @@ impl<'a, P: Parts> TypeRules<'a, P> {
         requires types { P.reads_types self.now.parts self.now.at.depth }
         requires first_height { first.height ≡ parameter_height (parameter_tree first.tree) }
         requires first_fits { first.height ≤ self.now.at.depth }
-        ensures value { Gives tree.parameter_list (rule.more_parameters self.now.at first.tree r.old) result r.new }
+        ensures value { Follows (rule.more_parameters self.now.at first) r.old result r.new }
         ensures measured { Measures tree.parameter_list self.now.at.depth result }
     {
         let mut height = first.height;
@@ -135,7 +135,7 @@ impl<'a, P: Parts> TypeRules<'a, P> {
     #[tactic(auto, using(pa_tree::proofs::Views::expr_views))]
     pub fn parameters(&self, r: &mut Reader<'_>) -> Result<Measured<Parameters>, ParseError>
         requires types { P.reads_types self.now.parts self.now.at.depth }
-        ensures value { Gives tree.parameters (rule.parameters self.now.at r.old) result r.new }
+        ensures value { Follows (rule.parameters self.now.at) r.old result r.new }
         ensures measured { Measures tree.parameters self.now.at.depth result }
     {
         let from = r.begin();

@@ -4,16 +4,17 @@ ghost use Rattle.std.specs.Prelude.{◌≡◌, ◌≤◌};
 ghost use Rattle.std.specs.Option.{option_copied};
 ghost use Rattle.pa_tree.specs.Heights.{expr_height};
 ghost use Rattle.pa_tree.specs.Views.{expr_tree};
-ghost use Rattle.pa_pspec.specs.Measures.{BeginsWith, Measures, ReadsBehind, Gives};
+ghost use Rattle.pa_parts.specs.Measures.{Measures};
+ghost use Rattle.pa_pspec.specs.Lists.{BeginsWith, ReadsBehind};
 ghost use Rattle.pa_pspec.specs.Rules as rule;
-ghost use Rattle.pa_pspec.specs.Trees as tree;
+ghost use Rattle.pa_parts.specs.Trees as tree;
 ghost use Rattle.pa_grammar.specs.Reading as reading;
+ghost use Rattle.pa_grammar.specs.Rule.{Follows};
 
-use crate::measured::Measured;
-use crate::parts::Parts;
 use crate::type_rules::TypeRules;
 use pa_grammar::{ParseError, Reader, SynRule, is_word, needs};
 use pa_lex::{Keyword, Punct, Token};
+use pa_parts::{Measured, Parts};
 use pa_tree::{COND_LEVEL, Expr, Qualifier};
 use sqlite_items::Items;
 
@@ -61,7 +62,7 @@ impl<'a, P: Parts> TypeRules<'a, P> {
     #[tactic(auto, using(pa_tree::proofs::Views::expr_views))]
     fn ptrauth(&self, r: &mut Reader<'_>, from: u32) -> Result<Measured<Qualifier>, ParseError>
         requires exprs { P.reads_exprs self.now.parts self.now.at.depth }
-        ensures value { Gives tree.qualifier (rule.ptrauth self.now.at from r.old) result r.new }
+        ensures value { Follows (rule.ptrauth self.now.at from) r.old result r.new }
         ensures measured { Measures tree.qualifier self.now.at.depth result }
     {
         r.expect(Punct::LeftParenthesis)?;
@@ -81,7 +82,7 @@ impl<'a, P: Parts> TypeRules<'a, P> {
     #[tactic(auto, using(pa_tree::proofs::Views::expr_views))]
     fn qualifier(&self, r: &mut Reader<'_>) -> Result<Measured<Qualifier>, ParseError>
         requires exprs { P.reads_exprs self.now.parts self.now.at.depth }
-        ensures value { Gives tree.qualifier (rule.qualifier self.now.at r.old) result r.new }
+        ensures value { Follows (rule.qualifier self.now.at) r.old result r.new }
         ensures measured { Measures tree.qualifier self.now.at.depth result }
     {
         let Some(t) = r.peek() else {
@@ -103,7 +104,7 @@ impl<'a, P: Parts> TypeRules<'a, P> {
     /// The qualifiers that follow, and their greatest height.
     pub fn qualifiers(&self, r: &mut Reader<'_>) -> Result<Measured<Items<Qualifier>>, ParseError>
         requires exprs { P.reads_exprs self.now.parts self.now.at.depth }
-        ensures value { Gives tree.qualifiers (rule.qualifiers self.now.at r.old) result r.new }
+        ensures value { Follows (rule.qualifiers self.now.at) r.old result r.new }
         ensures measured { Measures tree.qualifiers self.now.at.depth result }
     {
         let mut height = 0;

@@ -1,17 +1,17 @@
 //! What a type is, its qualifiers aside (C11 6.7.2), and specifiers whole.
 
 ghost use Rattle.std.specs.Prelude.{◌≤◌};
-ghost use Rattle.pa_pspec.specs.Measures.{Inside, Gives, Measures};
+ghost use Rattle.pa_parts.specs.Measures.{Measures};
+ghost use Rattle.pa_pspec.specs.Lists.{Inside};
 ghost use Rattle.pa_pspec.specs.Rules as rule;
-ghost use Rattle.pa_pspec.specs.Trees as tree;
+ghost use Rattle.pa_parts.specs.Trees as tree;
+ghost use Rattle.pa_grammar.specs.Rule.{Follows};
 
-use crate::at::At;
-use crate::measured::Measured;
-use crate::parts::Parts;
 use crate::type_rules::TypeRules;
 use crate::word::integer_words;
 use pa_grammar::{ParseError, Reader, SynRule, needs, plain_name};
 use pa_lex::{Keyword, Kind, Punct, Token};
+use pa_parts::{At, Measured, Parts};
 use pa_tree::{Base, IntegerWord, Specs, Tag};
 
 /// What a tag names.
@@ -34,7 +34,7 @@ impl<'a, P: Parts + Copy> TypeRules<'a, P> {
         requires exprs_inside { Inside (P.reads_exprs self.now.parts) self.now.at.depth }
         requires types_inside { Inside (P.reads_types self.now.parts) self.now.at.depth }
         requires shallow { self.now.at.depth ≤ 200 }
-        ensures value { Gives tree.base (rule.body self.now.at kind from tag r.old) result r.new }
+        ensures value { Follows (rule.body self.now.at kind from tag) r.old result r.new }
         ensures measured { Measures tree.base self.now.at.depth result }
     {
         needs(2, self.at.depth)?;
@@ -64,7 +64,7 @@ impl<'a, P: Parts + Copy> TypeRules<'a, P> {
         requires exprs_inside { Inside (P.reads_exprs self.now.parts) self.now.at.depth }
         requires types_inside { Inside (P.reads_types self.now.parts) self.now.at.depth }
         requires shallow { self.now.at.depth ≤ 200 }
-        ensures value { Gives tree.base (rule.tagged self.now.at kind from bodies r.old) result r.new }
+        ensures value { Follows (rule.tagged self.now.at kind from bodies) r.old result r.new }
         ensures measured { Measures tree.base self.now.at.depth result }
     {
         if bodies && r.sees(Punct::LeftBrace) {
@@ -90,7 +90,7 @@ impl<'a, P: Parts + Copy> TypeRules<'a, P> {
         t: &Token,
         word: Option<IntegerWord>,
     ) -> Result<Measured<Base>, ParseError>
-        ensures value { Gives tree.base (rule.words self.now.at t.now word r.old) result r.new }
+        ensures value { Follows (rule.words self.now.at t.now word) r.old result r.new }
         ensures measured { Measures tree.base self.now.at.depth result }
     {
         let Some(word) = word else {
@@ -112,17 +112,17 @@ impl<'a, P: Parts + Copy> TypeRules<'a, P> {
         &self,
         r: &mut Reader<'_>,
         t: &Token,
-        keyword: Keyword,
+        word: Keyword,
         bodies: bool,
     ) -> Result<Measured<Base>, ParseError>
         requires exprs_inside { Inside (P.reads_exprs self.now.parts) self.now.at.depth }
         requires types_inside { Inside (P.reads_types self.now.parts) self.now.at.depth }
         requires shallow { self.now.at.depth ≤ 200 }
-        ensures value { Gives tree.base (rule.keyword_base self.now.at bodies t.now keyword r.old) result r.new }
+        ensures value { Follows (rule.keyword self.now.at bodies t.now word) r.old result r.new }
         ensures measured { Measures tree.base self.now.at.depth result }
     {
         let (from, to) = (t.from, t.to);
-        match keyword {
+        match word {
             Keyword::Void => {
                 r.take(t);
                 let tree = Base::Void { from, to };
@@ -151,7 +151,7 @@ impl<'a, P: Parts + Copy> TypeRules<'a, P> {
         requires exprs_inside { Inside (P.reads_exprs self.now.parts) self.now.at.depth }
         requires types_inside { Inside (P.reads_types self.now.parts) self.now.at.depth }
         requires shallow { self.now.at.depth ≤ 200 }
-        ensures value { Gives tree.base (rule.base self.now.at bodies r.old) result r.new }
+        ensures value { Follows (rule.base self.now.at bodies) r.old result r.new }
         ensures measured { Measures tree.base self.now.at.depth result }
     {
         let Some(t) = r.peek() else {
@@ -183,7 +183,7 @@ impl<'a, P: Parts + Copy> TypeRules<'a, P> {
         requires exprs_inside { Inside (P.reads_exprs self.now.parts) self.now.at.depth }
         requires types_inside { Inside (P.reads_types self.now.parts) self.now.at.depth }
         requires shallow { self.now.at.depth ≤ 200 }
-        ensures value { Gives tree.specs (rule.specs self.now.at bodies r.old) result r.new }
+        ensures value { Follows (rule.specs self.now.at bodies) r.old result r.new }
         ensures measured { Measures tree.specs self.now.at.depth result }
     {
         let from = r.begin();

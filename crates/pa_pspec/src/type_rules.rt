@@ -1,13 +1,12 @@
 //! What the rules of specifiers and declarators stand on.
 
-ghost use Rattle.pa_pspec.specs.Measures.{Gives, Measures};
+ghost use Rattle.pa_parts.specs.Measures.{Measures};
 ghost use Rattle.pa_pspec.specs.Rules as rule;
-ghost use Rattle.pa_pspec.specs.Trees as tree;
+ghost use Rattle.pa_parts.specs.Trees as tree;
+ghost use Rattle.pa_grammar.specs.Rule.{Follows};
 
-use crate::at::At;
-use crate::measured::Measured;
-use crate::parts::Parts;
 use pa_grammar::{Naming, ParseError, Reader};
+use pa_parts::{At, Measured, Parts};
 use pa_tree::{Declarator, Expr, Specs};
 use std::alloc::Global;
 
@@ -23,7 +22,7 @@ impl<'a, P: Parts> TypeRules<'a, P> {
     /// An expression of this level.
     pub fn expr(&self, r: &mut Reader<'_>, level: u8) -> Result<Measured<Expr>, ParseError>
         requires exprs { P.reads_exprs self.now.parts self.now.at.depth }
-        ensures value { Gives tree.expr (rule.expr self.now.at level r.old) result r.new }
+        ensures value { Follows (rule.expr self.now.at level) r.old result r.new }
         ensures measured { Measures tree.expr self.now.at.depth result }
     {
         self.parts
@@ -33,7 +32,7 @@ impl<'a, P: Parts> TypeRules<'a, P> {
     /// Specifiers.
     pub fn specs(&self, r: &mut Reader<'_>, bodies: bool) -> Result<Measured<Specs>, ParseError>
         requires types { P.reads_types self.now.parts self.now.at.depth }
-        ensures value { Gives tree.specs (rule.specs self.now.at bodies r.old) result r.new }
+        ensures value { Follows (rule.specs self.now.at bodies) r.old result r.new }
         ensures measured { Measures tree.specs self.now.at.depth result }
     {
         self.parts
@@ -47,7 +46,7 @@ impl<'a, P: Parts> TypeRules<'a, P> {
         name: Naming,
     ) -> Result<Measured<Declarator>, ParseError>
         requires types { P.reads_types self.now.parts self.now.at.depth }
-        ensures value { Gives tree.declarator (rule.declarator self.now.at name r.old) result r.new }
+        ensures value { Follows (rule.declarator self.now.at name) r.old result r.new }
         ensures measured { Measures tree.declarator self.now.at.depth result }
     {
         self.parts

@@ -8,7 +8,7 @@ use crate::tree_outline::{
 };
 use pa_grammar::{Level, TypeNames};
 use pa_lex::{NameNumber, Token, lex};
-use pa_pexpr::{declarator, expr, type_specs};
+use pa_one_tree::{declarator, expr, type_specs};
 use std::alloc::{AllocError, Global};
 use std::fmt::Write;
 use std::test::Fail;

@@ -3,7 +3,7 @@ use Rattle.pa_lex.specs.declared.token.Punct.TheVariants as p
 use Rattle.pa_tree.specs.Cursors.{head}
 use Rattle.pa_tree.specs.Views.{init_declarator_tree}
 use Rattle.pa_grammar.specs.Parser.{sees}
-use Rattle.pa_pdecl.proofs.Turns.{declared_more, behind_none}
+use Rattle.pa_file_grammar.proofs.Turns.{declared_more, behind_none}
 use Rattle.pa_pdecl.proofs.declaration.more_declarators.Goals as goal
 
 pub items-preserved : goal.items-preserved

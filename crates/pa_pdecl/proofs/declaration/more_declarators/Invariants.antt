@@ -1,6 +1,6 @@
 use Rattle.std.proofs.Common.{◌≡◌, ◌∷◌, [], length, map, None}
 use Rattle.pa_tree.specs.Views.{init_declarator_tree}
-use Rattle.pa_pdecl.specs.Reading as reading
+use Rattle.pa_file_grammar.specs.Reading as reading
 use Rattle.pa_pdecl.proofs.declaration.more_declarators.Given as goal
 
 abbrev pub invariant-items : goal.invariant-items

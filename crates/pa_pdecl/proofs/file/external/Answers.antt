@@ -2,7 +2,7 @@ use Rattle.std.proofs.Common.{◌≡◌, false}
 use Rattle.pa_lex.specs.declared.token.Punct.TheVariants as p
 use Rattle.pa_tree.specs.Cursors.{head}
 use Rattle.pa_grammar.specs.Parser.{sees}
-use Rattle.pa_pdecl.proofs.Turns.{external_behind}
+use Rattle.pa_file_grammar.proofs.Turns.{external_behind}
 use Rattle.pa_pdecl.proofs.file.external.Goals as goal
 
 pub returns-clause-value : goal.returns-clause-value

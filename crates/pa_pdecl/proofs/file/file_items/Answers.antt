@@ -1,5 +1,5 @@
 use Rattle.std.proofs.Common.{sym, ◌∙◌}
-use Rattle.pa_pdecl.proofs.Turns.{file_more, names_more}
+use Rattle.pa_file_grammar.proofs.Turns.{file_more, names_more}
 use Rattle.pa_pdecl.proofs.file.file_items.Goals as goal
 
 pub items-preserved : goal.items-preserved

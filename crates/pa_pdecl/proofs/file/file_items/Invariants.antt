@@ -1,7 +1,7 @@
 use Rattle.std.proofs.Common.{◌≡◌, [], length, map}
 use Rattle.pa_tree.specs.Views.{file_item_tree}
 use Rattle.pa_grammar.specs.Parser.{iterate}
-use Rattle.pa_pdecl.specs.Reading as reading
+use Rattle.pa_file_grammar.specs.Reading as reading
 use Rattle.pa_pdecl.proofs.file.file_items.Given as goal
 
 abbrev pub invariant-items : goal.invariant-items

@@ -2,7 +2,7 @@ use Rattle.std.proofs.Common.{◌≡◌, true, false, arith}
 use Rattle.pa_lex.specs.declared.token.Punct.TheVariants as p
 use Rattle.pa_tree.specs.Cursors.{head}
 use Rattle.pa_grammar.specs.Parser.{sees}
-use Rattle.pa_pdecl.proofs.Turns.{initializer_value, initializer_braced}
+use Rattle.pa_file_grammar.proofs.Turns.{initializer_value, initializer_braced}
 use Rattle.pa_pdecl.proofs.initializer.+initializer.Goals as goal
 
 pub returns-then-not-sees : goal.returns-then-not-sees

@@ -1,5 +1,5 @@
 use Rattle.std.proofs.Common.{arith}
-use Rattle.pa_pdecl.proofs.Turns.{stmt_deeper}
+use Rattle.pa_file_grammar.proofs.Turns.{stmt_deeper}
 use Rattle.pa_pdecl.proofs.statement.+stmt.Goals as goal
 
 pub returns : goal.returns

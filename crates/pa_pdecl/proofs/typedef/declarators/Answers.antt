@@ -2,7 +2,7 @@ use Rattle.std.proofs.Common.{◌≡◌, true, sym, ◌∙◌}
 use Rattle.pa_lex.specs.declared.token.Punct.TheVariants as p
 use Rattle.pa_tree.specs.Cursors.{head}
 use Rattle.pa_grammar.specs.Parser.{sees}
-use Rattle.pa_pdecl.proofs.Turns.{declared_more, behind_more}
+use Rattle.pa_file_grammar.proofs.Turns.{declared_more, behind_more}
 use Rattle.pa_pdecl.proofs.typedef.declarators.Goals as goal
 
 pub items-preserved : goal.items-preserved

@@ -1,7 +1,7 @@
 use Rattle.std.proofs.Common.{◌≡◌, length, map}
 use Rattle.pa_tree.specs.Files.{behind_all}
 use Rattle.pa_tree.specs.Views.{declarator_tree, init_declarator_tree}
-use Rattle.pa_pdecl.specs.Reading as reading
+use Rattle.pa_file_grammar.specs.Reading as reading
 use Rattle.pa_pdecl.proofs.typedef.declarators.Given as goal
 
 abbrev pub invariant-items : goal.invariant-items

@@ -2,7 +2,7 @@ use Rattle.std.proofs.Common.{◌≡◌, false, sym, ◌∙◌}
 use Rattle.pa_lex.specs.declared.token.Punct.TheVariants as p
 use Rattle.pa_tree.specs.Cursors.{head}
 use Rattle.pa_grammar.specs.Parser.{sees}
-use Rattle.pa_pdecl.proofs.Turns.{item_more, item_shortens}
+use Rattle.pa_file_grammar.proofs.Turns.{item_more, item_shortens}
 use Rattle.pa_pdecl.proofs.stmt_rules.StmtRules.block_items.Goals as goal
 
 pub items-smaller : goal.items-smaller

@@ -8,7 +8,7 @@ use Rattle.pa_pexpr.proofs.expr_rules.ExprRules.more_arguments.Given as goal
 
 abbrev pub invariant-arguments : goal.invariant-arguments
 invariant-arguments g l = record {
-  same : many (sees p.Comma) (rule.next_argument l.self.at) (map expr_tree l.all) l.r ≡ rule.more_arguments l.self.at (l.fn.first).tree l.fn.r;
+  same : many (sees p.Comma) (rule.next_argument l.self.at).read (map expr_tree l.all) l.r ≡ (rule.more_arguments l.self.at l.fn.first).read l.fn.r;
   high : l.height ≡ exprs_height (exprs_of (map expr_tree l.all));
   fits : l.height ≤ l.self.at.depth;
 }

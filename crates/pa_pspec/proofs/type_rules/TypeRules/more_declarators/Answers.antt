@@ -9,11 +9,11 @@ use Rattle.pa_pspec.specs.Rules as rule
 use Rattle.pa_pspec.proofs.type_rules.TypeRules.more_declarators.Goals as goal
 
 pub returns-in_err-declarator-clause-value : goal.returns-in_err-declarator-clause-value
-returns-in_err-declarator-clause-value g c = let f = list_stops declarator_tree (sees p.Comma) (rule.next_declarator c.args.self.now.at) (takes_declarator c.args.self.now.at.names.now c.args.self.now.at.depth) (many (sees p.Comma) (rule.next_declarator c.args.self.now.at) (declarator_tree c.args.first.tree ∷ []) c.args.r.now) c.declarators.all c.declarators.r c.declarators.invariant.same (sym c.sees.ensures ∙ c.declarators-test.true) in search (rules, f)
+returns-in_err-declarator-clause-value g c = let f = list_stops declarator_tree (sees p.Comma) (rule.next_declarator c.args.self.now.at).read (takes_declarator c.args.self.now.at.names.now c.args.self.now.at.depth) (many (sees p.Comma) (rule.next_declarator c.args.self.now.at).read (declarator_tree c.args.first.tree ∷ []) c.args.r.now) c.declarators.all c.declarators.r c.declarators.invariant.same (sym c.sees.ensures ∙ c.declarators-test.true) in search (rules, f)
 
 pub declarators-preserved : goal.declarators-preserved
 declarators-preserved g c = let m = c.in_ok-declarator.ensures.measured in let h = declarators_height c.declarators.all c.push-in-declarators.new.self c.in_ok-declarator.declarator.tree c.in_ok-push-2.ensures.ok in record {
-  same = list_more declarator_tree (sees p.Comma) (rule.next_declarator c.args.self.now.at) (takes_declarator c.args.self.now.at.names.now c.args.self.now.at.depth) (many (sees p.Comma) (rule.next_declarator c.args.self.now.at) (declarator_tree c.args.first.tree ∷ []) c.args.r.now) c.declarators.all c.push-in-declarators.new.self c.in_ok-declarator.declarator.tree c.declarators.r c.next_declarator.new.r c.declarators.invariant.same c.in_ok-push-2.ensures.ok (sym c.sees.ensures ∙ c.declarators-test.true) c.in_ok-declarator.ensures.value;
+  same = list_more declarator_tree (sees p.Comma) (rule.next_declarator c.args.self.now.at).read (takes_declarator c.args.self.now.at.names.now c.args.self.now.at.depth) (many (sees p.Comma) (rule.next_declarator c.args.self.now.at).read (declarator_tree c.args.first.tree ∷ []) c.args.r.now) c.declarators.all c.push-in-declarators.new.self c.in_ok-declarator.declarator.tree c.declarators.r c.next_declarator.new.r c.declarators.invariant.same c.in_ok-push-2.ensures.ok (sym c.sees.ensures ∙ c.declarators-test.true) c.in_ok-declarator.ensures.value;
   high = omega (arith, h, m.0, m.1, c.declarators.invariant.high);
   fits = omega (arith, m.0, m.1, c.declarators.invariant.fits);
 }
@@ -22,4 +22,4 @@ pub declarators-smaller : goal.declarators-smaller
 declarators-smaller g c = eats_is (takes_declarator c.args.self.now.at.names.now c.args.self.now.at.depth) (declarator_tree c.in_ok-declarator.declarator.tree) c.declarators.r c.next_declarator.new.r c.in_ok-declarator.ensures.value
 
 pub returns-clause-value : goal.returns-clause-value
-returns-clause-value g c = list_ends declarator_tree (sees p.Comma) (rule.next_declarator c.args.self.now.at) (takes_declarator c.args.self.now.at.names.now c.args.self.now.at.depth) (many (sees p.Comma) (rule.next_declarator c.args.self.now.at) (declarator_tree c.args.first.tree ∷ []) c.args.r.now) c.declarators.all c.declarators.r c.declarators.invariant.same (sym c.sees.ensures ∙ c.declarators-test.false)
+returns-clause-value g c = list_ends declarator_tree (sees p.Comma) (rule.next_declarator c.args.self.now.at).read (takes_declarator c.args.self.now.at.names.now c.args.self.now.at.depth) (many (sees p.Comma) (rule.next_declarator c.args.self.now.at).read (declarator_tree c.args.first.tree ∷ []) c.args.r.now) c.declarators.all c.declarators.r c.declarators.invariant.same (sym c.sees.ensures ∙ c.declarators-test.false)

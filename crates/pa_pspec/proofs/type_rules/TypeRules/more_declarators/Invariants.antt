@@ -8,8 +8,8 @@ use Rattle.pa_pspec.proofs.type_rules.TypeRules.more_declarators.Given as goal
 
 abbrev pub invariant-declarators : goal.invariant-declarators
 invariant-declarators g l = record {
-  same : many (sees p.Comma) (rule.next_declarator l.self.at) (map declarator_tree l.all) l.r
-      ≡ many (sees p.Comma) (rule.next_declarator l.self.at) (declarator_tree (l.fn.first).tree ∷ []) l.initial.r;
+  same : many (sees p.Comma) (rule.next_declarator l.self.at).read (map declarator_tree l.all) l.r
+      ≡ many (sees p.Comma) (rule.next_declarator l.self.at).read (declarator_tree (l.fn.first).tree ∷ []) l.initial.r;
   high : l.height ≡ height_of_declarators (map declarator_tree l.all);
   fits : l.height ≤ l.self.at.depth;
 }

@@ -1,5 +1,5 @@
 use Rattle.std.proofs.Common.{◌≡◌, ◌≤◌, ◌-◌, ◌∷◌, [], ◌++◌, map, Ok, Err, IfSome, rules, arith, subst, ap, ◌∙◌}
-use Rattle.pa_pspec.specs.Measures.{constant_shown}
+use Rattle.pa_pspec.specs.Lists.{constant_shown}
 use Rattle.pa_tree.specs.Heights.{enumerator_height}
 use Rattle.pa_tree.specs.Views.{enumerator_tree}
 use Rattle.pa_pspec.proofs.Bodies.{constants, constants_more, constants_stop, constants_end, constants_shorter}

@@ -8,8 +8,8 @@ use Rattle.pa_pspec.proofs.type_rules.TypeRules.more_members.Given as goal
 
 abbrev pub invariant-members : goal.invariant-members
 invariant-members g l = record {
-  same : many not_brace (rule.member l.self.at) (map member_tree l.all) l.r
-      ≡ many not_brace (rule.member l.self.at) (member_tree (l.fn.first).tree ∷ []) l.initial.r;
+  same : many not_brace (rule.member l.self.at).read (map member_tree l.all) l.r
+      ≡ many not_brace (rule.member l.self.at).read (member_tree (l.fn.first).tree ∷ []) l.initial.r;
   high : l.height ≡ height_of_members (map member_tree l.all);
   fits : l.height ≤ l.self.at.depth;
 }

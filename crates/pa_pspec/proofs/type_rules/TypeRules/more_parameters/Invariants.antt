@@ -8,8 +8,8 @@ use Rattle.pa_pspec.proofs.type_rules.TypeRules.more_parameters.Given as goal
 
 abbrev pub invariant-parameters : goal.invariant-parameters
 invariant-parameters g l = record {
-  same : many (sees p.Comma) (rule.next_parameter l.self.at) (map parameter_tree l.all) l.r
-      ≡ many (sees p.Comma) (rule.next_parameter l.self.at) (parameter_tree (l.fn.first).tree ∷ []) l.initial.r;
+  same : many (sees p.Comma) (rule.next_parameter l.self.at).read (map parameter_tree l.all) l.r
+      ≡ many (sees p.Comma) (rule.next_parameter l.self.at).read (parameter_tree (l.fn.first).tree ∷ []) l.initial.r;
   high : l.height ≡ height_of_parameters (map parameter_tree l.all);
   fits : l.height ≤ l.self.at.depth;
 }

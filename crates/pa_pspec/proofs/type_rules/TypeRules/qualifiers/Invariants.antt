@@ -8,8 +8,8 @@ use Rattle.pa_pspec.proofs.type_rules.TypeRules.qualifiers.Given as goal
 
 abbrev pub invariant-qualifiers : goal.invariant-qualifiers
 invariant-qualifiers g l = record {
-  same : many begins_qualifier (rule.qualifier l.self.at) (map qualifier_tree l.all) l.r
-      ≡ many begins_qualifier (rule.qualifier l.self.at) [] l.initial.r;
+  same : many begins_qualifier (rule.qualifier l.self.at).read (map qualifier_tree l.all) l.r
+      ≡ many begins_qualifier (rule.qualifier l.self.at).read [] l.initial.r;
   high : l.height ≡ height_of_qualifiers (map qualifier_tree l.all);
   fits : l.height ≤ l.self.at.depth;
 }

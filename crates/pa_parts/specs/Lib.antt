@@ -1,0 +1,4 @@
+pub mod Measures
+pub mod Nests
+pub mod Nonterminals
+pub mod Trees
