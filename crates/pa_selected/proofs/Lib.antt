@@ -19,3 +19,4 @@ pub mod Entering
 pub mod Loading
 mod Changing
 pub mod Stores
+pub mod Places
