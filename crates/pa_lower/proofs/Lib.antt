@@ -1,2 +1,3 @@
 pub mod Computing
+pub mod Held
 pub mod Rows
