@@ -1,11 +1,11 @@
 -- Operators on places: the word that the instructions make stands for the place or the number that the operator gives.
-use Rattle.std.proofs.Common.{◌≡◌, ℕ, ◌+◌, ◌*◌, ◌%◌, ◌^◌, ◌≤◌, ◌<◌, Bool, true, false, cond, leb, List, length, Option, Some, None, refl, sym, ap, subst, ◌∙◌, arith}
+use Rattle.std.proofs.Common.{◌≡◌, ℕ, ◌+◌, ◌^◌, ◌<◌, Bool, true, false, cond, leb, List, length, Option, Some, None, refl, ap, subst, arith}
 use Rattle.std.specs.Prelude.{slice_get, slice_index, unwrap_or}
 use Rattle.std.proofs.lemmas.Bool.{leb-true}
 use Rattle.pa_num.specs.Arithmetic.{wrap, add64, sub64}
 use Rattle.pa_mem.specs.Memory.{Region}
 use Rattle.pa_lir.specs.Operators.{place_in, place_if}
-use Rattle.pa_lir.specs.Values.{FlatValue, Number, At, Object, Objects}
+use Rattle.pa_lir.specs.Values.{FlatValue, At, Object, Objects}
 use Rattle.pa_selected.specs.Values.{Addresses, StandsFor, HasObjects}
 
 -- a place that an operator gives lies in its object, or at the object's end

@@ -217,6 +217,11 @@ module _ (pac : Code) (addresses : Addresses) (o : Open) (m : Machine) (call : I
       gives _ to _ (Number z) few stored
       (ap (λ u. computed_by operator u (slot o.function m right)) a.1 ∙ (ap (computed_by operator x) b.1 ∙ sym (computed_means operator x y z means)))
 
+  -- whatever its operands: the word that the instructions make stands for the value
+  pub bin_gives : (words : ℤ) (to : ℕ) (operator : BinOp) (left right : ℕ) (value : FlatValue) → to < held o.function → left < held o.function → right < held o.function
+      → StandsFor addresses value (computed_by operator (slot o.function m left) (slot o.function m right)) → HasCode m.memory m.pc (code_of o.function words (op.Bin to operator left right)) → Gives pac addresses o (words_of o.function (op.Bin to operator left right)) m to value
+  bin_gives words to operator left right value few a b stands c = gives _ to _ value few (bin_stores pac o.function m call.running call.frame words to operator left right few a b room c) stands
+
   pub un_follows : (words : ℤ) (to : ℕ) (operator : UnOp) (from x : ℕ) → to < held o.function → temp o from ≡ Some (Number x)
       → HasCode m.memory m.pc (code_of o.function words (op.Un to operator from)) → Gives pac addresses o (words_of o.function (op.Un to operator from)) m to (Number (of_number operator x))
   un_follows words to operator from x few e c =
