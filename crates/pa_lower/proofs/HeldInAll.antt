@@ -1,18 +1,19 @@
 -- How many temporaries the flat code of a function holds: at most twice as many as values may wait in its expressions, and four.
-use Rattle.std.proofs.Common.{◌≡◌, ℕ, zero, suc, ◌+◌, ◌*◌, ◌≤◌, max, Bool, true, false, List, [], ◌∷◌, ◌++◌, Option, Some, None, arith}
+use Rattle.std.proofs.Common.{◌≡◌, refl, ap, ◌∙◌, sum_by, map, ℕ, zero, suc, ◌+◌, ◌*◌, ◌≤◌, Bool, true, false, List, [], ◌∷◌, ◌++◌, Option, Some, None, arith}
 use Rattle.std.specs.Prelude.{unwrap_or, if◌then◌else◌}
+use Rattle.std.specs.Int.{next_multiple_of}
+use Rattle.std.proofs.lemmas.List.Sums.{sum_by-cons}
 use Rattle.pa_ctype.specs.Types.{TypeTree}
 use Rattle.pa_typed.specs.Typed.{TypedExpr, TypedGiven, GivenValue, GivenText, TypedInitial, TypedLocalInit, TypedForStart, Declares, Evaluates, TypedStmt, TypedStmts, Compound, InitLocal, Expression, If, IfElse, While, DoWhile, For, Switch, Case, Default, Break, Continue, Return, NoTStmts, ConsTStmt}
 use Rattle.pa_typed.specs.Counts.{maybe_pend, given_pend, initials_pend, name_initials_pend, names_pend, start_pend, stmt_pend, stmts_pend}
-use Rattle.pa_typed.specs.Units.{FunctionTree}
+use Rattle.pa_typed.specs.Units.{LocalTree, FunctionTree, sizes_of, weight_of}
 use Rattle.pa_cmean.specs.Calls.{gives_nothing}
-use Rattle.pa_lir.specs.declared.op.Op.{Op}
 use Rattle.pa_lir.specs.declared.op.Op.TheVariants as op
-use Rattle.pa_lir.specs.Parts.{above, above_all, held}
+use Rattle.pa_lir.specs.Parts.{above, above_all, held, bytes, rounded, frame_bound}
 use Rattle.pa_lower.specs.Operations.{store_op}
 use Rattle.pa_lower.specs.Expressions.{expr_labels, either_ops}
-use Rattle.pa_lower.specs.Statements.{whole_ops, maybe_labels, maybe_ops, given_labels, given_ops, initials_ops, local_labels, locals_ops, start_labels, start_ops, Ways, jump_ops, loop_ways, switch_ways, stmt_cases, body_cases, case_labels, test_ops, stmt_tests, item_tests, body_tests, body_default, stmt_labels, branch_ops, enter_ops, turn_ops, return_ops, stmt_ops, stmts_ops, switched_ops, items_ops}
-use Rattle.pa_lower.specs.Programs.{end_ops, no_ways, lowered_function}
+use Rattle.pa_lower.specs.Statements.{whole_ops, maybe_labels, maybe_ops, given_labels, given_ops, initials_ops, local_labels, locals_ops, start_labels, start_ops, Ways, jump_ops, loop_ways, switch_ways, stmt_cases, body_cases, case_labels, stmt_tests, item_tests, body_tests, body_default, stmt_labels, branch_ops, enter_ops, turn_ops, return_ops, stmt_ops, stmts_ops, switched_ops, items_ops}
+use Rattle.pa_lower.specs.Programs.{end_ops, no_ways, lowered_local, lowered_function}
 use Rattle.pa_lower.proofs.Held.{append_is, either_is, whole_held}
 
 maybe_held : (n : ℕ) (e : Option TypedExpr) → above_all (maybe_ops n e) ≤ 1 + 2 * maybe_pend e
@@ -179,6 +180,17 @@ end_held f = by_void (gives_nothing f.of)
     by_void true = omega arith
     by_void false = omega arith
 
--- so the bound on a frame of the layer below is within what an open call weighs
+-- the layer below has a frame for it within what an open call weighs: its locals and these temporaries
 pub function_held : (f : FunctionTree) → held (lowered_function f) ≤ 2 * stmt_pend f.body + 4
 function_held f = let i = stmt_held 0 no_ways f.body in let e = end_held f in let a = append_is (stmt_ops 0 no_ways f.body) (end_ops f) in omega (arith, i, e, a)
+
+locals_are : (ls : List LocalTree) → sum_by rounded (map lowered_local ls) ≡ sizes_of ls
+unfolding sizes_of
+locals_are [] = refl
+locals_are (l ∷ ls) = sum_by-cons rounded (lowered_local l) (map lowered_local ls) ∙ ap (λ n. next_multiple_of l.size 8 + n) (locals_are ls)
+
+pub function_bytes : (f : FunctionTree) → bytes (lowered_function f) ≡ sizes_of f.locals
+function_bytes f = locals_are f.locals
+
+pub frame_within : (f : FunctionTree) → frame_bound (lowered_function f) ≤ weight_of f
+frame_within f = let h = function_held f in let b = function_bytes f in omega (arith, h, b)
