@@ -64,12 +64,12 @@ other_is r h = let p = place_below r.spare r.free h.spare in record { to = omega
 
 -- ---- operations
 
-append_is : (a b : List Op) → above_all (a ++ b) ≡ max (above_all a) (above_all b)
+pub append_is : (a b : List Op) → above_all (a ++ b) ≡ max (above_all a) (above_all b)
 unfolding above_all
 append_is [] b = omega arith
 append_is (o ∷ a) b = omega (arith, append_is a b)
 
-either_is : (n t : ℕ) (f g : List Op) → above_all (either_ops n t f g) ≡ max (suc t) (max (above_all f) (above_all g))
+pub either_is : (n t : ℕ) (f g : List Op) → above_all (either_ops n t f g) ≡ max (suc t) (max (above_all f) (above_all g))
 unfolding above above_all
 either_is n t f g = let a = append_is f (op.Jump (suc n) ∷ op.Label n ∷ (g ++ op.Label (suc n) ∷ [])) in let b = append_is g (op.Label (suc n) ∷ []) in omega (arith, a, b)
 

@@ -1,3 +1,4 @@
 pub mod Computing
 pub mod Held
+pub mod HeldInAll
 pub mod Rows
