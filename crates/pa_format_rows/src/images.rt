@@ -1,5 +1,5 @@
 use pa_fixups::{Fix, FixKind, Fixes, Sig};
-use pa_image::{Image, legal, read_image, write_image};
+use pa_image::{Image, is_small, legal, places, read_image, write_image};
 use pa_layout::put_zeros;
 use pa_macho::{Header, Role, header_fits, write_header};
 use pa_num::{Bytes, Fault, ImageRule, Name, Names, Words};
@@ -187,7 +187,13 @@ fn every_part(alloc: Global, role: Role) -> Result<Image, Fail> {
     marks.push(mark(alloc, b"_main", 3, true)?)?;
     marks.push(mark(alloc, b"_helper", 7, false)?)?;
     let mut imports = Names::new(alloc);
-    imports.push(Name::from_slice(alloc, b"_putchar")?)?;
+    for name in [
+        b"_putchar".as_slice(),
+        b"".as_slice(),
+        b"_putchar".as_slice(),
+    ] {
+        imports.push(Name::from_slice(alloc, name)?)?;
+    }
     let import = FixKind::AuthBind {
         ordinal: 0,
         sig: SIG,
@@ -199,6 +205,10 @@ fn every_part(alloc: Global, role: Role) -> Result<Image, Fail> {
     let function = FixKind::AuthRebase {
         target: 0x40c,
         sig: SIG,
+    };
+    let before = FixKind::Bind {
+        ordinal: 2,
+        addend: -5,
     };
     let fixes = [
         Fix {
@@ -217,6 +227,10 @@ fn every_part(alloc: Global, role: Role) -> Result<Image, Fail> {
             at: 0x4010,
             kind: place,
         },
+        Fix {
+            at: 0x4018,
+            kind: before,
+        },
     ];
     let mut cells = Vec::new(alloc);
     put_zeros(&mut cells, 0x4010)?;
@@ -234,6 +248,96 @@ fn every_part(alloc: Global, role: Role) -> Result<Image, Fail> {
     })
 }
 
+/// That image as a library, behind its header: its bytes by eights where they aren't all zero, as another program spells them.
+const LIBRARY: [(usize, u64); 34] = [
+    (0x400, 0xd400_0061_9400_0003),
+    (0x408, 0xd503_237f_d420_0000),
+    (0x410, 0xa900_7bfd_d100_43ff),
+    (0x418, 0xa940_7bfd_d503_201f),
+    (0x420, 0xd280_0000_9100_43ff),
+    (0x428, 0xd65f_0fff),
+    (0x430, 0x2_0000_0001),
+    (0x438, 0x4_0000_0003),
+    (0x440, 0x7478_6574),
+    (0x4000, 0xfff9_0000_0000_0000),
+    (0x7ff8, 0x1_8000_0400),
+    (0x8000, 0x8011_0000_0000_040c),
+    (0x8010, 0x0008_0001_8000_0400),
+    (0x8018, 0x4007_fffb_0000_0002),
+    (0x8020, 0x5_0403_0201),
+    (0xc000, 0x20_0000_0000),
+    (0xc008, 0x60_0000_0054),
+    (0xc010, 0x1_0000_0003),
+    (0xc020, 3),
+    (0xc028, 24),
+    (0xc038, 0x0001_4000_0000_001a),
+    (0xc040, 0x4000),
+    (0xc048, 0x2_0000_0000),
+    (0xc050, 0x201_0000_0000),
+    (0xc058, 0x1601_0000_1401),
+    (0xc060, 0x6168_6374_7570_5f00),
+    (0xc068, 0x6374_7570_5f00_0072),
+    (0xc070, 0x72_6168),
+    (0xc078, 0x10f_0000_0001),
+    (0xc080, 0x1_8000_040c),
+    (0xc088, 0x10e_0000_0007),
+    (0xc090, 0x1_8000_041c),
+    (0xc098, 0x5f00_6e69_616d_5f00),
+    (0xc0a0, 0x7265_706c_6568),
+];
+
+#[test]
+fn spells_a_library(rt: HostRuntime) -> Result<(), Fail> {
+    let bytes = again(rt.alloc(), &every_part(rt.alloc(), Role::Library)?)?;
+    assert!(rt; bytes.len() == 0xc0a7);
+    let mut expected = Vec::from_slice(rt.alloc(), &bytes[..0x400])?;
+    put_zeros(&mut expected, 0xbca8)?;
+    for (at, word) in LIBRARY {
+        assert!(rt; at < expected.len() && expected.len() - at >= 8);
+        expected[at..at + 8].copy_from_slice(&word.to_le_bytes());
+    }
+    assert!(rt; expected.starts_with(&bytes));
+    Ok(())
+}
+
+/// An image whose one function has a name of so many bytes. With 14,238 it has 16 MiB.
+fn large(alloc: Global, name_len: usize) -> Result<Image, Fail> {
+    let mut name = Vec::new(alloc);
+    name.resize(name_len, b'f')?;
+    let mut marks = Marks::new(alloc);
+    marks.push(mark(alloc, &name, 0, true)?)?;
+    let mut cells = Vec::new(alloc);
+    cells.resize(0xff_8000, 0)?;
+    Ok(Image {
+        role: Role::Main,
+        text: Words::from_slice(alloc, &[0xd65f_0fff])?,
+        stubs: Words::new(alloc),
+        consts: Bytes::new(alloc),
+        got: 0,
+        cells: Bytes::from_vec(cells),
+        marks,
+        imports: Names::new(alloc),
+        fixes: Fixes::new(alloc),
+    })
+}
+
+#[test]
+fn tells_small_images(rt: HostRuntime) -> Result<(), Fail> {
+    for (name_len, end, small) in [(14_238, 0x100_0000, true), (14_239, 0x100_0001, false)] {
+        let image = large(rt.alloc(), name_len)?;
+        if !legal(&image) {
+            return Err(Fail::from("legal"));
+        }
+        let extent = places(&image);
+        assert_eq!(rt;
+            (extent.got, extent.linkedit, extent.end),
+            (0x4000, 0xff_c000, end)
+        );
+        assert_eq!(rt; is_small(&image), small);
+    }
+    Ok(())
+}
+
 #[test]
 fn reads_what_it_writes(rt: HostRuntime) -> Result<(), Fail> {
     for role in [Role::Main, Role::Library] {
@@ -246,7 +350,7 @@ fn reads_what_it_writes(rt: HostRuntime) -> Result<(), Fail> {
         assert_eq!(rt; read.fixes.as_slice(), image.fixes.as_slice());
         assert_eq!(rt; read.cells.as_slice(), image.cells.as_slice());
         assert_eq!(rt; read.consts.as_slice(), b"text".as_slice());
-        assert_eq!(rt; (read.got, read.imports.len(), read.marks.len()), (8, 1, 2));
+        assert_eq!(rt; (read.got, read.imports.len(), read.marks.len()), (8, 3, 2));
         let twice = again(rt.alloc(), &read)?;
         assert_eq!(rt; twice.as_slice(), bytes.as_slice());
     }

@@ -14,4 +14,6 @@ mod images;
 #[cfg(test)]
 mod loads;
 #[cfg(test)]
+mod slots;
+#[cfg(test)]
 mod symbols;
