@@ -290,7 +290,10 @@ const LIBRARY: [(usize, u64); 34] = [
 fn spells_a_library(rt: HostRuntime) -> Result<(), Fail> {
     let bytes = again(rt.alloc(), &every_part(rt.alloc(), Role::Library)?)?;
     assert!(rt; bytes.len() == 0xc0a7);
-    let mut expected = Vec::from_slice(rt.alloc(), &bytes[..0x400])?;
+    let Some(front) = bytes.get(..0x400) else {
+        return Err(Fail::from("front"));
+    };
+    let mut expected = Vec::from_slice(rt.alloc(), front)?;
     put_zeros(&mut expected, 0xbca8)?;
     for (at, word) in LIBRARY {
         assert!(rt; at < expected.len() && expected.len() - at >= 8);

@@ -1,4 +1,5 @@
-ghost use Rattle.std.specs.Prelude.{◌≡◌, length, IfOk};
+ghost use Rattle.std.specs.Prelude.{◌≡◌, ◌≤◌, ◌<◌, ◌+◌, ◌*◌, ◌^◌, length, IfOk};
+ghost use Rattle.pa_slots.specs.Pages.{page_size, cells_from};
 
 use crate::bytes::{put, zeros};
 use pa_fixups::{Fix, FixKind, Sig};
@@ -79,15 +80,31 @@ fn cells(alloc: Global) -> Result<Vec<u8>, AllocError>
     Ok(bytes)
 }
 
+/// The pages of slots that fit.
+fn written(
+    alloc: Global,
+    at: &SlotsAt,
+    cells: &[u8],
+    fixes: &[Fix],
+    pages: u32,
+) -> Result<Written, Fail>
+    requires pages { pages < 2 ^ 16 }
+    requires inside { cells_from at.now + at.now.cells ≤ page_size * pages }
+    ensures { IfOk result (λ made. length made.bytes.items ≡ page_size * pages) }
+{
+    if !slots_fit(at, cells, fixes) {
+        return Err(Fail::from("slots"));
+    }
+    let Ok(made) = write_slots(alloc, at, cells, fixes, pages) else {
+        return Err(Fail::from("memory"));
+    };
+    Ok(made)
+}
+
 #[test]
 fn spells_two_pages(rt: HostRuntime) -> Result<(), Fail> {
     let cells = cells(rt.alloc())?;
-    if !slots_fit(&AT, &cells, &FIXES) {
-        return Err(Fail::from("slots"));
-    }
-    let Ok(Written { bytes, starts }) = write_slots(rt.alloc(), &AT, &cells, &FIXES, 2) else {
-        return Err(Fail::from("memory"));
-    };
+    let Written { bytes, starts } = written(rt.alloc(), &AT, &cells, &FIXES, 2)?;
     assert_eq!(rt; starts.as_slice(), [0, 0].as_slice());
     assert_eq!(rt; bytes.as_slice(), pages(rt.alloc())?.as_slice());
     let Ok(Slots { cells: read, fixes }) = read_slots(rt.alloc(), &AT, starts.as_slice(), &bytes)
