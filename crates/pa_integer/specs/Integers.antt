@@ -85,6 +85,12 @@ arithmetic And bits signed a b = bitwise bit_and bits signed a b
 arithmetic Xor bits signed a b = bitwise bit_xor bits signed a b
 arithmetic Or bits signed a b = bitwise bit_or bits signed a b
 
+-- the right operand is of the same type; that of a shift has one of its own (6.5.7p3)
+abbrev pub is_right_operand : BinaryOperation → ℕ → Bool → ℤ → Bool
+is_right_operand ShiftLeft bits signed b = true
+is_right_operand ShiftRight bits signed b = true
+is_right_operand op bits signed b = is_in_range bits signed b
+
 -- `-a` and `~a` (6.5.3.3)
 abbrev pub negated : ℕ → Bool → ℤ → Option ℤ
 negated bits signed a = settled bits signed (neg_ℤ a)
