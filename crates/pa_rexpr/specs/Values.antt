@@ -65,15 +65,25 @@ converted wanted e = if same_bare wanted e.of then e.tree else to.Convert e.tree
 abbrev pub same_struct : TypeTree → TypeTree → Bool
 same_struct a b = is_struct a && (is_struct b && same_but_const a b)
 
+-- null for a pointer, or a pointer for `_Bool`
+abbrev pub is_pointer_conversion : TypeTree → TypeTree → Bool → Bool
+is_pointer_conversion wanted of null = (is_pointer wanted && null) || (is_boolean wanted && is_pointer of)
+
+abbrev pub pointer_rule : TypeTree → TypeTree → Option TypeRule
+pointer_rule wanted of = if takes wanted of then None else Some C7
+
+abbrev pub struct_rule : Table → TypeTree → TypeRule
+struct_rule table wanted = if is_complete table wanted then C23 else C11
+
 -- The rule that a value of a type breaks where it is given to a place of a type: in an assignment, an initializer, as an argument
 -- or a result. `null`: it is null.
 abbrev pub given_rule : Table → TypeTree → TypeTree → Bool → Option TypeRule
 given_rule table wanted of null =
     if is_void of then Some C11
     else if is_integer wanted && is_integer of then None
-    else if is_pointer wanted && is_pointer of then (if takes wanted of then None else Some C7)
-    else if (is_pointer wanted && null) || (is_boolean wanted && is_pointer of) then None
-    else if same_struct wanted of then Some (if is_complete table wanted then C23 else C11)
+    else if is_pointer wanted && is_pointer of then pointer_rule wanted of
+    else if is_pointer_conversion wanted of null then None
+    else if same_struct wanted of then Some (struct_rule table wanted)
     else Some C10
 
 abbrev pub unless_broken : {A : Type 0} → Option TypeRule → A → Result A TypeRule
