@@ -8,7 +8,7 @@ use Rattle.pa_scope.specs.declared.rule.TypeRule.{TypeRule}
 use Rattle.pa_scope.specs.declared.rule.TypeRule.TheVariants.{C8, C9, C10, C11, C15, C16}
 use Rattle.pa_scope.specs.Answers.{Answer, breaks_at, at_place, first_of_two, first_rule}
 use Rattle.pa_convert.specs.Conversions.{is_integer, is_pointer, is_void, is_scalar, is_function_pointer, target, value_type}
-use Rattle.pa_rexpr.specs.Values.{Typed, value, converted, given}
+use Rattle.pa_rexpr.specs.Values.{Typed, value, converted, given, unless_broken}
 use Rattle.pa_rexpr.specs.Operators.{is_bodiless}
 
 -- ---- arguments (6.5.2.2p2, p7)
@@ -59,25 +59,23 @@ call table place by_name function arguments = call_of table place by_name functi
 abbrev pub cast_value : TypeTree → Typed → Typed
 cast_value wanted e = value (converted wanted e) (value_type wanted)
 
--- to void: of any value but a pointer to a function
-abbrev pub discarded : Table → TypeTree → Typed → Result Typed TypeRule
-discarded table wanted e =
-    if is_bodiless table e.of then Err C11 else if is_function_pointer e.of then Err C15 else Ok (cast_value wanted e)
+-- to void: of any value but a struct without a body and a pointer to a function
+abbrev pub discard_rule : Table → TypeTree → Option TypeRule
+discard_rule table of = if is_bodiless table of then Some C11 else if is_function_pointer of then Some C15 else None
 
 -- between scalars: integers, or pointers to objects
-abbrev pub cast_scalar : TypeTree → Typed → Result Typed TypeRule
-cast_scalar wanted e =
-    if is_function_pointer wanted || is_function_pointer e.of then Err C15
-    else if is_integer wanted && is_integer e.of then Ok (cast_value wanted e)
-    else if is_pointer wanted && is_pointer e.of then Ok (cast_value wanted e)
-    else Err C16
+abbrev pub scalar_rule : TypeTree → TypeTree → Option TypeRule
+scalar_rule wanted of =
+    if is_function_pointer wanted || is_function_pointer of then Some C15
+    else if (is_integer wanted && is_integer of) || (is_pointer wanted && is_pointer of) then None
+    else Some C16
 
-abbrev pub cast_by : Table → TypeTree → Typed → Result Typed TypeRule
-cast_by table wanted e =
-    if is_void wanted then discarded table wanted e
-    else if is_void e.of then Err C11
-    else if is_scalar wanted && is_scalar e.of then cast_scalar wanted e
-    else Err C10
+abbrev pub cast_rule : Table → TypeTree → TypeTree → Option TypeRule
+cast_rule table wanted of =
+    if is_void wanted then discard_rule table of
+    else if is_void of then Some C11
+    else if is_scalar wanted && is_scalar of then scalar_rule wanted of
+    else Some C10
 
 abbrev pub cast : Table → ℕ → TypeTree → Typed → Answer Typed
-cast table place wanted e = at_place place (cast_by table wanted e)
+cast table place wanted e = at_place place (unless_broken (cast_rule table wanted e.of) (cast_value wanted e))

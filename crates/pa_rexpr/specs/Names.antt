@@ -1,5 +1,6 @@
 -- Names, literals and the discriminator of a string (C11 6.4.4, 6.4.5, 6.5.1; Clang's Pointer Authentication page).
-use Rattle.std.specs.Prelude.{ℕ, suc, ◌^◌, ◌==◌, nat_lt, ℤ, Bool, true, false, ◌&&◌, if◌then◌else◌, List, [], ◌∷◌, ◌++◌, length, take, Option, Some, None, Ok, codes}
+use Rattle.std.specs.Prelude.{ℕ, suc, ◌^◌, ◌==◌, nat_eq, nat_lt, ℤ, Bool, true, false, ◌&&◌, if◌then◌else◌, List, [], ◌∷◌, ◌++◌, length, Option, Some, None, Ok, codes}
+use Rattle.std.specs.List.{starts_with}
 use Rattle.std.specs.Str.{bytes_eq}
 use Rattle.pa_num.specs.Arithmetic.{unsigned64}
 use Rattle.pa_sip.specs.Discriminator.{discriminator}
@@ -11,7 +12,7 @@ use Rattle.pa_scope.specs.declared.rule.TypeRule.TheVariants.{C1, C14, C24}
 use Rattle.pa_scope.specs.Answers.{Answer, breaks_at}
 use Rattle.pa_convert.specs.Conversions.{char, int, unsigned_int, long, unsigned_long, pointer_to, is_function}
 use Rattle.pa_scope.specs.Scope.{Spelling, Scope, Meaning, Local, Global, Constant, meaning}
-use Rattle.pa_rexpr.specs.Values.{Typed, lvalue, value, designator}
+use Rattle.pa_rexpr.specs.Values.{Typed, lvalue, designator}
 use Rattle.pa_rexpr.specs.declared.category.Category.TheVariants.{Value}
 
 -- ---- names (6.5.1p2)
@@ -20,11 +21,21 @@ abbrev pub ptrauth_prefix : List ℕ
 ptrauth_prefix = codes "ptrauth_"
 
 abbrev pub is_reserved : List ℕ → Bool
-is_reserved name = bytes_eq (take 8 name) ptrauth_prefix
+is_reserved name = starts_with nat_eq name ptrauth_prefix
+
+abbrev pub is_null_name : List ℕ → Bool
+is_null_name name = bytes_eq name (codes "NULL")
+
+-- a number of a type
+abbrev pub number : ℕ → TypeTree → Bool → Typed
+number n of null = record { tree = to.Number n of; of = of; category = Value; null = null }
 
 -- an enumerator or a constant of a header is a number (6.4.4.3); `NULL` goes with every pointer
 abbrev pub constant_name : List ℕ → ℤ → Bool → Typed
-constant_name name z brought = record { tree = to.Number (unsigned64 z) int; of = int; category = Value; null = brought && bytes_eq name (codes "NULL") }
+constant_name name z brought = number (unsigned64 z) int (brought && is_null_name name)
+
+abbrev pub local_name : ℕ → TypeTree → Typed
+local_name number of = lvalue (to.LocalPlace number of) of
 
 -- a function is the pointer to it until more is known
 abbrev pub global_name : List ℕ → ℕ → TypeTree → Typed
@@ -32,7 +43,7 @@ global_name name place of =
     if is_function of then designator (to.FunctionValue name place (pointer_to of)) of else lvalue (to.GlobalPlace name place of) of
 
 abbrev pub named_by : List ℕ → ℕ → Option Meaning → Answer Typed
-named_by name place (Some (Local number of)) = Ok (lvalue (to.LocalPlace number of) of)
+named_by name place (Some (Local number of)) = Ok (local_name number of)
 named_by name place (Some (Global of)) = Ok (global_name name place of)
 named_by name place (Some (Constant z brought)) = Ok (constant_name name z brought)
 named_by name place _ = breaks_at C1 place
@@ -69,18 +80,21 @@ candidates decimal true true = (unsigned_long, 64) ∷ []
 
 abbrev pub integer_by : ℕ → ℕ → Option TypeTree → Answer Typed
 integer_by n place None = breaks_at C14 place
-integer_by n place (Some t) = Ok (record { tree = to.Number n t; of = t; category = Value; null = n == 0 })
+integer_by n place (Some t) = Ok (number n t (n == 0))
 
 abbrev pub integer_literal : ℕ → Bool → Bool → Bool → ℕ → Answer Typed
 integer_literal n decimal has_u has_l place = integer_by n place (first_fit n (candidates decimal has_u has_l))
 
 -- 6.4.4.4p10
 abbrev pub character : ℤ → Typed
-character z = value (to.Number (unsigned64 z) int) int
+character z = number (unsigned64 z) int false
+
+abbrev pub char_array : ℕ → TypeTree
+char_array count = Of false (Array char (Some count))
 
 -- an array of the bytes and a zero (6.4.5p6)
 abbrev pub string : ℕ → List ℕ → Typed
-string number bytes = lvalue (to.StringPlace number (Of false (Array char (Some (suc (length bytes)))))) (Of false (Array char (Some (suc (length bytes)))))
+string number bytes = lvalue (to.StringPlace number (char_array (suc (length bytes)))) (char_array (suc (length bytes)))
 
 -- ---- the discriminator of a string
 
@@ -100,7 +114,7 @@ only_text (tree.ConsExpr e tree.NoExprs) = text_of e
 only_text _ = None
 
 abbrev pub discriminator_value : List ℕ → Typed
-discriminator_value bytes = value (to.Number (discriminator bytes) unsigned_long) unsigned_long
+discriminator_value bytes = number (discriminator bytes) unsigned_long false
 
 abbrev pub is_name : ExprTree → Bool
 is_name (tree.Identifier name a z) = true

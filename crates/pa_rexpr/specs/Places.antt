@@ -16,7 +16,7 @@ use Rattle.pa_typed.specs.Typed as to
 use Rattle.pa_scope.specs.declared.rule.TypeRule.TheVariants.{C3, C4, C5, C11, C12}
 use Rattle.pa_scope.specs.Answers.{Answer, breaks_at, then_with, at_place}
 use Rattle.pa_convert.specs.Conversions.{int, unsigned_long, pointer_to, value_type, schema_of, is_integer, is_void, is_array, is_function, is_movable, target}
-use Rattle.pa_ctype.specs.Qualifiers.{with_const}
+use Rattle.pa_ctype.specs.Qualifiers.{is_constant, with_const}
 use Rattle.pa_rexpr.specs.Values.{Typed, lvalue, value, designator, read, given}
 use Rattle.pa_rexpr.specs.declared.category.Category.{Category}
 use Rattle.pa_rexpr.specs.declared.category.Category.TheVariants.{Lvalue, Designator}
@@ -33,9 +33,12 @@ pointed_to place e (Some t) =
 abbrev pub indirection : ℕ → Typed → Answer Typed
 indirection place e = pointed_to place e (target e.of)
 
+abbrev pub indexed : Typed → Typed → Bool → TypeTree → Typed
+indexed a b pointer_left t = lvalue (to.Index a.tree b.tree pointer_left t) t
+
 abbrev pub element : ℕ → Typed → Typed → Bool → Option TypeTree → Answer Typed
 element place a b pointer_left None = breaks_at C5 place
-element place a b pointer_left (Some t) = Ok (lvalue (to.Index a.tree b.tree pointer_left t) t)
+element place a b pointer_left (Some t) = Ok (indexed a b pointer_left t)
 
 -- `a[b]`, where one side is a pointer
 abbrev pub subscript : Table → ℕ → Typed → Typed → Answer Typed
@@ -44,9 +47,12 @@ subscript table place a b =
     else if is_integer a.of && is_movable table b.of then element place a b false (target b.of)
     else breaks_at C5 place
 
+abbrev pub address_of : TypedExpr → TypeTree → Typed
+address_of tree of = value (to.AddressOf tree (pointer_to of)) (pointer_to of)
+
 -- `&e`, of an lvalue as it stands or of a function
 abbrev pub address_by : Category → ℕ → Typed → Answer Typed
-address_by Lvalue place e = Ok (value (to.AddressOf e.tree (pointer_to e.of)) (pointer_to e.of))
+address_by Lvalue place e = Ok (address_of e.tree e.of)
 address_by Designator place e = Ok (read e)
 address_by _ place e = breaks_at C3 place
 
@@ -64,12 +70,16 @@ abbrev pub field_at : Table → ℕ → ℕ → Option Field
 field_at table id index = option_and_then (λ body. slice_get body index) (body_of table id)
 
 -- a member of a constant struct is constant (6.5.2.3p3)
-abbrev pub member_type : TypeTree → Field → TypeTree
-member_type (Of constant form) field = with_const constant field.of
+abbrev pub member_type : TypeTree → TypeTree → TypeTree
+member_type owner of = with_const (is_constant owner) of
+
+abbrev pub member_of_type : Typed → Member → TypeTree → Typed
+member_of_type e m of =
+    record e { tree = to.Member e.tree m.index m.offset (member_type e.of of); of = member_type e.of of }
 
 abbrev pub member_in : ℕ → Typed → Member → Option Field → Answer Typed
 member_in place e m None = breaks_at C12 place
-member_in place e m (Some field) = Ok (record e { tree = to.Member e.tree m.index m.offset (member_type e.of field); of = member_type e.of field })
+member_in place e m (Some field) = Ok (member_of_type e m field.of)
 
 abbrev pub member_found : Table → ℕ → Typed → ℕ → Option Member → Answer Typed
 member_found table place e id None = breaks_at C12 place
@@ -194,9 +204,12 @@ stepped table place s old e = updated table place (step_operator s) e old one
 
 -- ---- `sizeof` (6.5.3.4): of a complete object type
 
+abbrev pub byte_count : ℕ → Typed
+byte_count bytes = value (to.Number bytes unsigned_long) unsigned_long
+
 abbrev pub sized : ℕ → Option Layout → Answer Typed
 sized place None = breaks_at C11 place
-sized place (Some l) = Ok (value (to.Number l.size unsigned_long) unsigned_long)
+sized place (Some l) = Ok (byte_count l.size)
 
 abbrev pub size_of : Table → ℕ → TypeTree → Answer Typed
 size_of table place t = sized place (layout_in table t)
