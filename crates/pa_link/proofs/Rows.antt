@@ -9,11 +9,14 @@ use Rattle.pa_typed.specs.Typed.{TypedExpr, Number, StringPlace, GlobalPlace, Ad
 use Rattle.pa_typed.specs.Units.{FunctionTree, CellTree, GlobalTree, DeclaredTree, UnitTree, ProgramTree, function_named, sizes_of}
 use Rattle.pa_link.specs.Moved as moved
 use Rattle.pa_link.specs.Uses as uses
-use Rattle.pa_link.specs.Program.{LinkRule, L1, L2, L3, L4, M1, M2, M4, LinkFault, parts_from, declares, declaration_fault, least, first_fault, program_of}
+use Rattle.pa_link.specs.declared.rule.LinkFault.{LinkFault}
+use Rattle.pa_link.specs.declared.rule.LinkRule.{LinkRule}
+use Rattle.pa_link.specs.declared.rule.LinkRule.TheVariants.{L1, L2, L3, L4, M1, M2, M4}
+use Rattle.pa_link.specs.Program.{parts_from, structs_from, declares, declaration_fault, least, first_fault, program_of}
 
 -- what units make, where it computes
 unfoldable pub result : List UnitTree → Result ProgramTree LinkFault
-unfolding program_of parts_from declares declaration_fault least first_fault function_named sizes_of moved.moved_expr moved.moved_exprs moved.moved_stmt moved.moved_stmts uses.expr_uses uses.exprs_uses uses.stmt_uses uses.stmts_uses raised.raised raised.raised_form raised.raised_types equality.same_type equality.same_form equality.same_types fmt.digits
+unfolding program_of parts_from structs_from declares declaration_fault least first_fault function_named sizes_of moved.moved_expr moved.moved_exprs moved.moved_stmt moved.moved_stmts uses.expr_uses uses.exprs_uses uses.stmt_uses uses.stmts_uses raised.raised raised.raised_form raised.raised_types equality.same_type equality.same_form equality.same_types fmt.digits
 result = program_of
 
 abbrev fault_of : Result ProgramTree LinkFault → Option LinkFault

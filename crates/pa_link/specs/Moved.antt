@@ -4,9 +4,9 @@ use Rattle.std.specs.Prelude.{ℕ, ◌+◌, List, ◌++◌, map, if◌then◌els
 use Rattle.std.specs.List.{list_any}
 use Rattle.std.specs.Str.{bytes_eq}
 use Rattle.pa_ctype.specs.Types.{TypeTree}
-use Rattle.pa_ctype.specs.Raised.{raised, raised_table}
+use Rattle.pa_ctype.specs.Raised.{raised}
 use Rattle.pa_typed.specs.Typed.{TypedExpr, TypedExprs, LocalPlace, GlobalPlace, StringPlace, Same, Member, Index, Deref, Number, Load, LoadSigned, Store, StoreSigned, AddressOf, FunctionValue, Convert, Unary, Binary, PointerAdd, PointerSub, Compare, And, Or, Choose, Comma, CallDirect, CallPointer, NoTExprs, ConsTExpr, TypedGiven, GivenValue, GivenText, TypedInitial, TypedLocalInit, TypedForStart, Declares, Evaluates, TypedStmt, TypedStmts, Compound, InitLocal, Expression, If, IfElse, While, DoWhile, For, Switch, Case, Default, Break, Continue, Return, NoTStmts, ConsTStmt}
-use Rattle.pa_typed.specs.Units.{LocalTree, FunctionTree, CellTree, GlobalTree, DeclaredTree, UnitTree}
+use Rattle.pa_typed.specs.Units.{LocalTree, FunctionTree, CellTree, GlobalTree, DeclaredTree}
 
 -- The file's number from 1, the names of internal linkage that it declares, and how many structs and string literals the files
 -- before it have.
@@ -105,13 +105,3 @@ moved_global m g = record g { name = moved_name m g.name; of = moved_type m g.of
 
 abbrev pub moved_declared : Move → DeclaredTree → DeclaredTree
 moved_declared m d = record d { name = moved_name m d.name; of = moved_type m d.of }
-
-abbrev pub moved_unit : Move → UnitTree → UnitTree
-moved_unit m unit = record {
-  functions = map (moved_function m) unit.functions;
-  globals = map (moved_global m) unit.globals;
-  declared = map (moved_declared m) unit.declared;
-  structs = raised_table m.structs unit.structs;
-  texts = unit.texts;
-  nodes = unit.nodes;
-}

@@ -1,5 +1,5 @@
 -- The program of several files (C11 5.1.1.1, 6.2.2, 6.9p5), or the first rule that it breaks.
-use Rattle.std.specs.Prelude.{ℕ, suc, ◌+◌, ◌==◌, nat_lt, Bool, true, false, not, ◌&&◌, ◌||◌, List, [], ◌∷◌, length, flat_map, filter_map, sum_by, if◌then◌else◌, Option, Some, None, option_map, Result, Ok, Err}
+use Rattle.std.specs.Prelude.{ℕ, suc, ◌+◌, ◌==◌, nat_lt, Bool, true, false, not, ◌&&◌, ◌||◌, List, [], ◌∷◌, length, map, flat_map, filter_map, sum_by, if◌then◌else◌, Option, Some, None, option_map, Result, Ok, Err}
 use Rattle.std.specs.Int.{next_multiple_of}
 use Rattle.std.specs.List.{list_any}
 use Rattle.std.specs.Str.{bytes_eq}
@@ -7,38 +7,25 @@ use Rattle.pa_ctype.specs.Types.{Of, Function, Nil}
 use Rattle.pa_ctype.specs.Equality.{same_type}
 use Rattle.pa_typed.specs.Units.{FunctionTree, GlobalTree, DeclaredTree, UnitTree, ProgramTree, function_named, sizes_of}
 use Rattle.pa_cmean.specs.Calls.{int, putchar, getchar, main, runtime_type}
-use Rattle.pa_link.specs.Moved.{Move, moved_unit}
+use Rattle.pa_ctype.specs.Layouts.{Table}
+use Rattle.pa_ctype.specs.Raised.{followed}
+use Rattle.pa_link.specs.declared.rule.LinkFault.{LinkFault}
+use Rattle.pa_link.specs.declared.rule.LinkRule.{LinkRule}
+use Rattle.pa_link.specs.declared.rule.LinkRule.TheVariants.{L1, L2, L3, L4, M1, M2, M3, M4}
+use Rattle.pa_link.specs.Moved.{Move, moved_function, moved_global, moved_declared}
 use Rattle.pa_link.specs.Uses.{Use, uses}
-
--- L1: a used name without a definition. L2: a name that is defined twice, `putchar` and `getchar` being defined by the runtime.
--- L3: two types for one name. L4: no `int main(void)`. M1: too many nodes. M2: too many bytes of globals and string literals. M3:
--- too many functions. M4: a function with too many bytes of objects.
-pub data LinkRule : Type 0 where
-  L1 : LinkRule
-  L2 : LinkRule
-  L3 : LinkRule
-  L4 : LinkRule
-  M1 : LinkRule
-  M2 : LinkRule
-  M3 : LinkRule
-  M4 : LinkRule
-
--- The file from 1, or 0 where the program as a whole breaks the rule. The place is that of the name's first byte in the file (of the
--- include line that declares it); at M1 to M3 the count, at L4 0.
-pub record LinkFault : Type 0 where
-  pub rule : LinkRule
-  pub file : ℕ
-  pub place : ℕ
 
 abbrev pub fault : LinkRule → ℕ → ℕ → LinkFault
 fault rule file place = record { rule = rule; file = file; place = place }
 
 -- ---- the files in the program
 
--- a file with its number, its names, structs and texts as in the program
+-- what the file of this number declares and defines, with its names, structs and string literals as in the program
 pub record Part : Type 0 where
   pub file : ℕ
-  pub unit : UnitTree
+  pub functions : List FunctionTree
+  pub globals : List GlobalTree
+  pub declared : List DeclaredTree
 
 -- names that a declaration of the file gives internal linkage (6.2.2p3)
 abbrev pub internal_name : DeclaredTree → Option (List ℕ)
@@ -47,23 +34,36 @@ internal_name d = if d.public then None else Some d.name
 abbrev pub move_of : ℕ → ℕ → ℕ → UnitTree → Move
 move_of file structs texts unit = record { file = file; internal = filter_map internal_name unit.declared; structs = structs; texts = texts }
 
+abbrev pub part_of : Move → UnitTree → Part
+part_of m unit = record {
+  file = m.file;
+  functions = map (moved_function m) unit.functions;
+  globals = map (moved_global m) unit.globals;
+  declared = map (moved_declared m) unit.declared;
+}
+
 -- the files from a number on, behind so many structs and string literals
 unfoldable pub parts_from : ℕ → ℕ → ℕ → List UnitTree → List Part
 parts_from file structs texts [] = []
 parts_from file structs texts (unit ∷ units) =
-    record { file = file; unit = moved_unit (move_of file structs texts unit) unit } ∷ parts_from (suc file) (structs + length unit.structs) (texts + length unit.texts) units
+    part_of (move_of file structs texts unit) unit ∷ parts_from (suc file) (structs + length unit.structs) (texts + length unit.texts) units
 
 abbrev pub parts : List UnitTree → List Part
 parts units = parts_from 1 0 0 units
 
-abbrev pub together : List Part → ProgramTree
-together ps = record {
-  functions = flat_map (λ part. part.unit.functions) ps;
-  globals = flat_map (λ part. part.unit.globals) ps;
-  declared = flat_map (λ part. part.unit.declared) ps;
-  structs = flat_map (λ part. part.unit.structs) ps;
-  texts = flat_map (λ part. part.unit.texts) ps;
-  nodes = sum_by (λ part. part.unit.nodes) ps;
+-- the structs of the files behind those of a table
+unfoldable pub structs_from : Table → List UnitTree → Table
+structs_from table [] = table
+structs_from table (unit ∷ units) = structs_from (followed table unit.structs) units
+
+abbrev pub together : List UnitTree → List Part → ProgramTree
+together units ps = record {
+  functions = flat_map (λ part. part.functions) ps;
+  globals = flat_map (λ part. part.globals) ps;
+  declared = flat_map (λ part. part.declared) ps;
+  structs = structs_from [] units;
+  texts = flat_map (λ unit. unit.texts) units;
+  nodes = sum_by (λ unit. unit.nodes) units;
 }
 
 -- ---- declarations, in file and source order: at each of them L2 before L3
@@ -75,8 +75,8 @@ is_function_at d f = bytes_eq f.name d.name && f.place == d.place
 abbrev pub is_global_at : DeclaredTree → GlobalTree → Bool
 is_global_at d g = bytes_eq g.name d.name && g.place == d.place
 
-abbrev pub defines : UnitTree → DeclaredTree → Bool
-defines unit d = list_any (is_function_at d) unit.functions || list_any (is_global_at d) unit.globals
+abbrev pub defines : Part → DeclaredTree → Bool
+defines part d = list_any (is_function_at d) part.functions || list_any (is_global_at d) part.globals
 
 -- what is known of names so far: their types, and which are defined
 pub record Known : Type 0 where
@@ -93,23 +93,23 @@ known_at_start = record { types = filter_map runtime_declared (putchar ∷ getch
 abbrev pub differs : DeclaredTree → DeclaredTree → Bool
 differs d known = bytes_eq known.name d.name && not (same_type known.of d.of)
 
-abbrev pub breaks_at : UnitTree → Known → DeclaredTree → Option LinkRule
-breaks_at unit known d =
-    if defines unit d && list_any (bytes_eq d.name) known.defined then Some L2
+abbrev pub breaks_at : Part → Known → DeclaredTree → Option LinkRule
+breaks_at part known d =
+    if defines part d && list_any (bytes_eq d.name) known.defined then Some L2
     else if list_any (differs d) known.types then Some L3
     else None
 
-abbrev pub learnt : UnitTree → Known → DeclaredTree → Known
-learnt unit known d = record { types = d ∷ known.types; defined = if defines unit d then d.name ∷ known.defined else known.defined }
+abbrev pub learnt : Part → Known → DeclaredTree → Known
+learnt part known d = record { types = d ∷ known.types; defined = if defines part d then d.name ∷ known.defined else known.defined }
 
 -- the first declaration of a file that breaks a rule, or what is known behind it
-abbrev pub declares_more : (Known → Result Known LinkFault) → ℕ → UnitTree → Known → DeclaredTree → Option LinkRule → Result Known LinkFault
-declares_more more file unit known d None = more (learnt unit known d)
-declares_more more file unit known d (Some rule) = Err (fault rule file d.place)
+abbrev pub declares_more : (Known → Result Known LinkFault) → Part → Known → DeclaredTree → Option LinkRule → Result Known LinkFault
+declares_more more part known d None = more (learnt part known d)
+declares_more more part known d (Some rule) = Err (fault rule part.file d.place)
 
-unfoldable pub declares : ℕ → UnitTree → List DeclaredTree → Known → Result Known LinkFault
-declares file unit [] known = Ok known
-declares file unit (d ∷ ds) known = declares_more (declares file unit ds) file unit known d (breaks_at unit known d)
+unfoldable pub declares : Part → List DeclaredTree → Known → Result Known LinkFault
+declares part [] known = Ok known
+declares part (d ∷ ds) known = declares_more (declares part ds) part known d (breaks_at part known d)
 
 abbrev pub then_part : (Known → Option LinkFault) → Result Known LinkFault → Option LinkFault
 then_part more (Ok known) = more known
@@ -117,7 +117,7 @@ then_part more (Err fault) = Some fault
 
 unfoldable pub declaration_fault : List Part → Known → Option LinkFault
 declaration_fault [] known = None
-declaration_fault (part ∷ ps) known = then_part (declaration_fault ps) (declares part.file part.unit part.unit.declared known)
+declaration_fault (part ∷ ps) known = then_part (declaration_fault ps) (declares part part.declared known)
 
 -- ---- uses, in file and source order
 
@@ -138,7 +138,7 @@ least [] = None
 least (n ∷ ns) = Some (less (least ns) n)
 
 abbrev pub unit_use_fault : ProgramTree → Part → Option LinkFault
-unit_use_fault program part = option_map (fault L1 part.file) (least (filter_map (missing program) (uses part.unit)))
+unit_use_fault program part = option_map (fault L1 part.file) (least (filter_map (missing program) (uses part.globals part.functions)))
 
 -- ---- `main`, and the limits
 
@@ -172,7 +172,7 @@ abbrev pub local_fault : ℕ → FunctionTree → Option LinkFault
 local_fault file f = if nat_lt most_local_bytes (sizes_of f.locals) then Some (fault M4 file f.place) else None
 
 abbrev pub unit_local_faults : Part → List LinkFault
-unit_local_faults part = filter_map (local_fault part.file) part.unit.functions
+unit_local_faults part = filter_map (local_fault part.file) part.functions
 
 -- ---- the program
 
@@ -203,4 +203,4 @@ program_or program (Some fault) = Err fault
 
 -- the program of these units, or the first rule that it breaks
 unfoldable pub program_of : List UnitTree → Result ProgramTree LinkFault
-program_of units = program_or (together (parts units)) (program_fault (parts units) (together (parts units)))
+program_of units = program_or (together units (parts units)) (program_fault (parts units) (together units (parts units)))

@@ -1,7 +1,7 @@
 -- The names of functions and globals that the expressions of a file use, each with its place in the file.
 use Rattle.std.specs.Prelude.{ℕ, List, [], ◌∷◌, ◌++◌, Option, Some, None, flat_map}
 use Rattle.pa_typed.specs.Typed.{TypedExpr, TypedExprs, LocalPlace, GlobalPlace, StringPlace, Same, Member, Index, Deref, Number, Load, LoadSigned, Store, StoreSigned, AddressOf, FunctionValue, Convert, Unary, Binary, PointerAdd, PointerSub, Compare, And, Or, Choose, Comma, CallDirect, CallPointer, NoTExprs, ConsTExpr, TypedGiven, GivenValue, GivenText, TypedInitial, TypedLocalInit, TypedForStart, Declares, Evaluates, TypedStmt, TypedStmts, Compound, InitLocal, Expression, If, IfElse, While, DoWhile, For, Switch, Case, Default, Break, Continue, Return, NoTStmts, ConsTStmt}
-use Rattle.pa_typed.specs.Units.{FunctionTree, CellTree, GlobalTree, UnitTree}
+use Rattle.pa_typed.specs.Units.{FunctionTree, CellTree, GlobalTree}
 
 pub record Use : Type 0 where
   pub name : List ℕ
@@ -96,5 +96,5 @@ abbrev pub global_uses : GlobalTree → List Use
 global_uses g = flat_map cell_uses g.cells
 
 -- in no certain order
-abbrev pub uses : UnitTree → List Use
-uses unit = flat_map global_uses unit.globals ++ flat_map function_uses unit.functions
+abbrev pub uses : List GlobalTree → List FunctionTree → List Use
+uses globals functions = flat_map global_uses globals ++ flat_map function_uses functions
