@@ -1,5 +1,5 @@
 -- A step keeps what a run gives: statements, calls, and the whole.
-use Rattle.std.proofs.Common.{◌≡◌, ℕ, pos, Bool, true, false, if◌then◌else◌, List, [], ◌∷◌, Option, Some, None, slice_get, refl, ap}
+use Rattle.std.proofs.Common.{◌≡◌, ℕ, pos, Bool, true, false, if◌then◌else◌, ◌||◌, option_map, List, [], ◌∷◌, Option, Some, None, slice_get, refl, ap, ◌∙◌}
 use Rattle.std.specs.Prelude.{ℤ}
 use Rattle.std.specs.Str.{bytes_eq}
 use Rattle.pa_ctype.specs.Values as value
@@ -7,24 +7,32 @@ use Rattle.pa_ctype.specs.Values.{Owner, Place, CValue, At, Code, Null, Cell}
 use Rattle.pa_integer.specs.Integers.{same_int, is_in_range}
 use Rattle.pa_typed.specs.Typed.{TypedExpr, TypedExprs, NoTExprs, ConsTExpr, TypedInitial, TypedForStart, Declares, Evaluates, TypedStmt, TypedStmts, Compound, InitLocal, Expression, If, IfElse, While, DoWhile, For, Switch, Case, Default, Break, Continue, Return, NoTStmts, ConsTStmt}
 use Rattle.pa_typed.specs.Units.{FunctionTree, ProgramTree, function_named}
-use Rattle.pa_cmean.specs.Results.{ends, undefined, Done, Undefined, entered, given}
+use Rattle.pa_cmean.specs.Results.{Meaning, ends, undefined, Done, Undefined, entered, given}
 use Rattle.pa_cmean.specs.Operations.{bytes_of, converted}
-use Rattle.pa_cmean.specs.State.{State, Body, owner_of, born, entering, initialised_at}
+use Rattle.pa_cmean.specs.State.{State, Exits, Body, tick, choose, owner_of, born, entering, initialised_at}
 use Rattle.pa_cmean.specs.Calls.{putchar, getchar, main, gives_nothing, exits_of, puts, gets, next_byte, runtime, enter, call, called}
 use Rattle.pa_cmean.specs.Expressions.{eval, evals}
-use Rattle.pa_cmean.specs.Statements.{Source, FromValue, FromByte, FromZero, Next, next_source, is_last, cell_given, cell_next, Target, AtCase, is_case, is_default, has_label, has_default, cells_given, given_initials, init_local, init_locals, evaluate, test, begin_for, loop, redo, select, block, exec, execs, enter_at, execs_from, start_locals, block_locals}
+use Rattle.pa_cmean.specs.Statements.{Source, FromValue, FromByte, FromZero, Next, next_source, is_last, cell_given, cell_next, Target, AtCase, is_case, is_default, has_label, any_default, cells_given, given_initials, init_local, init_locals, evaluate, test, begin_for, loop, redo, select, block, exec, execs, enter_at, execs_from, start_locals, block_locals}
 use Rattle.pa_cmean.specs.Mean.{perform, run, status}
 use Rattle.pa_cmean.proofs.Laws.{run_is}
 use Rattle.pa_mean.specs.Frames.{Callee, Named, Through, Cells, Frame, Now, Machine, Step}
 use Rattle.pa_mean.specs.Frames as f
-use Rattle.pa_mean.specs.Steps.{goes, ends_at, tick_step, given_step, arguments_step, block_step, local_step, for_step, begin_stmt, source_step, cells_step, select_step, enter_step, puts_step, byte_step, gets_step, enter_function, called_step, turn_behind, next, leave, proceed, give_back, status_step, step_of, step}
+use Rattle.pa_mean.specs.Steps.{goes, ends_at, tick_step, given_step, arguments_step, block_step, local_step, for_step, begin_stmt, source_step, cells_step, select_step, behind_label, Labelled, labelled, among_step, puts_step, byte_step, gets_step, enter_function, called_step, turn_behind, next, leave, proceed, give_back, status_step, step_of, step}
 use Rattle.pa_mean.specs.Meanings.{konts, resume, frame, meaning, after, next_turn}
 use Rattle.pa_mean.proofs.Values.{tick_keeps, turn_keeps, given_keeps, choose_keeps, begin_keeps, loop_keeps, give_keeps}
+
+choose_true : (a b : State → Meaning) (st : State) → choose true a b st ≡ a st
+unfolding choose
+choose_true a b st = refl
+
+choose_false : (a b : State → Meaning) (st : State) → choose false a b st ≡ b st
+unfolding choose
+choose_false a b st = refl
 
 module _ (program : ProgramTree) where
   -- ---- the ways out of a statement
 
-  turn_behind_keeps : (condition : Option TypedExpr) (step : Option TypedExpr) (body : TypedStmt) (ws : List Frame) (st : State) → next_turn program condition step body (konts program ws).exits st ≡ after program (turn_behind condition step body ws st)
+  turn_behind_keeps : (condition : Option TypedExpr) (after_body : Option TypedExpr) (body : TypedStmt) (ws : List Frame) (st : State) → next_turn program condition after_body body (konts program ws).exits st ≡ after program (turn_behind condition after_body body ws st)
   unfolding evaluate konts
   turn_behind_keeps condition None body ws st = loop_keeps program condition None body ws st
   turn_behind_keeps condition (Some e) body ws st = refl
@@ -66,8 +74,8 @@ module _ (program : ProgramTree) where
   next_keeps (f.Then rest) ws st = refl
   next_keeps (f.Closes locals) ws st = refl
   next_keeps (f.Initialises names) ws st = refl
-  next_keeps (f.Loops test step body) ws st = refl
-  next_keeps (f.Turns test step body) ws st = turn_behind_keeps test step body ws st
+  next_keeps (f.Loops test after_body body) ws st = refl
+  next_keeps (f.Turns test after_body body) ws st = turn_behind_keeps test after_body body ws st
   next_keeps (f.Redoes body test) ws st = refl
   next_keeps f.Breaks ws st = refl
   next_keeps (f.Returns function caller) ws st = choose_keeps program (gives_nothing function.of) _ _ st _ _ refl (choose_keeps program (bytes_eq function.name main) _ _ st _ _ refl refl)
@@ -109,8 +117,8 @@ module _ (program : ProgramTree) where
   leave_keeps (f.Then rest) ws st = refl
   leave_keeps (f.Closes locals) ws st = refl
   leave_keeps (f.Initialises names) ws st = refl
-  leave_keeps (f.Loops test step body) ws st = refl
-  leave_keeps (f.Turns test step body) ws st = refl
+  leave_keeps (f.Loops test after_body body) ws st = refl
+  leave_keeps (f.Turns test after_body body) ws st = refl
   leave_keeps (f.Redoes body test) ws st = refl
   leave_keeps f.Breaks ws st = refl
   leave_keeps (f.Returns function caller) ws st = refl
@@ -152,8 +160,8 @@ module _ (program : ProgramTree) where
   proceed_keeps (f.Then rest) ws st = refl
   proceed_keeps (f.Closes locals) ws st = refl
   proceed_keeps (f.Initialises names) ws st = refl
-  proceed_keeps (f.Loops test step body) ws st = refl
-  proceed_keeps (f.Turns test step body) ws st = turn_behind_keeps test step body ws st
+  proceed_keeps (f.Loops test after_body body) ws st = refl
+  proceed_keeps (f.Turns test after_body body) ws st = turn_behind_keeps test after_body body ws st
   proceed_keeps (f.Redoes body test) ws st = refl
   proceed_keeps f.Breaks ws st = refl
   proceed_keeps (f.Returns function caller) ws st = refl
@@ -195,8 +203,8 @@ module _ (program : ProgramTree) where
   give_back_keeps v (f.Then rest) ws st = refl
   give_back_keeps v (f.Closes locals) ws st = refl
   give_back_keeps v (f.Initialises names) ws st = refl
-  give_back_keeps v (f.Loops test step body) ws st = refl
-  give_back_keeps v (f.Turns test step body) ws st = refl
+  give_back_keeps v (f.Loops test after_body body) ws st = refl
+  give_back_keeps v (f.Turns test after_body body) ws st = refl
   give_back_keeps v (f.Redoes body test) ws st = refl
   give_back_keeps v f.Breaks ws st = refl
   give_back_keeps v (f.Returns function caller) ws st = refl
@@ -210,12 +218,12 @@ module _ (program : ProgramTree) where
   local_keeps None local ws st = refl
   local_keeps (Some is) local ws st = given_keeps program (owner_of st.world local) st _ _ (λ owner. given_keeps program (slice_get st.world.here.locals local) st _ _ (λ l. given_keeps program (bytes_of program.structs l.of) st _ _ (λ size. refl)))
 
-  for_keeps : (start : TypedForStart) (condition : Option TypedExpr) (step : Option TypedExpr) (body : TypedStmt) (ws : List Frame) (st : State)
-      → begin_for program (run program) start (loop program (run program) condition (next_turn program condition step body (konts program ws).exits) (exec program (run program) body) (konts program ws).exits) st ≡ after program (for_step start condition step body ws st)
+  for_keeps : (start : TypedForStart) (condition : Option TypedExpr) (after_body : Option TypedExpr) (body : TypedStmt) (ws : List Frame) (st : State)
+      → begin_for program (run program) start (loop program (run program) condition (next_turn program condition after_body body (konts program ws).exits) (exec program (run program) body) (konts program ws).exits) st ≡ after program (for_step start condition after_body body ws st)
   unfolding begin_for evaluate konts
-  for_keeps (Declares names) condition step body ws st = refl
-  for_keeps (Evaluates None) condition step body ws st = refl
-  for_keeps (Evaluates (Some e)) condition step body ws st = refl
+  for_keeps (Declares names) condition after_body body ws st = refl
+  for_keeps (Evaluates None) condition after_body body ws st = refl
+  for_keeps (Evaluates (Some e)) condition after_body body ws st = refl
 
   pub stmt_keeps : (s : TypedStmt) (ws : List Frame) (st : State) → exec program (run program) s (konts program ws).exits st ≡ after program (tick_step st (begin_stmt program s ws))
   unfolding exec execs block init_local evaluate test konts
@@ -227,7 +235,7 @@ module _ (program : ProgramTree) where
   stmt_keeps (IfElse test when_true when_false) ws st = tick_keeps program st _ (begin_stmt program (IfElse test when_true when_false) ws) (λ n. refl)
   stmt_keeps (While test body) ws st = tick_keeps program st _ (begin_stmt program (While test body) ws) (λ n. refl)
   stmt_keeps (DoWhile body test) ws st = tick_keeps program st _ (begin_stmt program (DoWhile body test) ws) (λ n. refl)
-  stmt_keeps (For start test step body) ws st = tick_keeps program st _ (begin_stmt program (For start test step body) ws) (λ n. given_keeps program (born program.structs (start_locals start) st.world) (record st { left = n }) _ _ (λ w. for_keeps start test step body (f.Closes (start_locals start) ∷ ws) (record st { left = n; world = w })))
+  stmt_keeps (For start test after_body body) ws st = tick_keeps program st _ (begin_stmt program (For start test after_body body) ws) (λ n. given_keeps program (born program.structs (start_locals start) st.world) (record st { left = n }) _ _ (λ w. for_keeps start test after_body body (f.Closes (start_locals start) ∷ ws) (record st { left = n; world = w })))
   stmt_keeps (Switch value body) ws st = tick_keeps program st _ (begin_stmt program (Switch value body) ws) (λ n. refl)
   stmt_keeps (Case value of body) ws st = tick_keeps program st _ (begin_stmt program (Case value of body) ws) (λ n. refl)
   stmt_keeps (Default body) ws st = tick_keeps program st _ (begin_stmt program (Default body) ws) (λ n. refl)
@@ -253,33 +261,68 @@ module _ (program : ProgramTree) where
       by_source None = refl
       by_source (Some n) = source_keeps n.source cell (record { initials = n.rest; owner = owner; cells = cells; size = size }) ws st
 
-  select_keeps : (n : ℤ) (cases : List (Option ℤ)) (body : TypedStmt) (ws : List Frame) (st : State) → meaning program (record { now = f.Select n cases body; frames = ws; state = st }) ≡ after program (select_step n cases body ws st)
+  select_keeps : (n : ℤ) (cases : List (Option ℤ)) (items : TypedStmts) (ws : List Frame) (st : State) → meaning program (record { now = f.Select n cases items; frames = ws; state = st }) ≡ after program (select_step n cases items ws st)
   unfolding select konts
-  select_keeps n [] body ws st = choose_keeps program (has_default body) _ _ st _ _ refl refl
-  select_keeps n (None ∷ cs) body ws st = tick_keeps program st _ _ (λ n. refl)
-  select_keeps n (Some c ∷ cs) body ws st = tick_keeps program st _ (λ st. if same_int c n then goes (f.EnterAt (AtCase n) body) (f.Breaks ∷ ws) st else goes (f.Select n cs body) ws st) (λ left. choose_keeps program (same_int c n) _ _ (record st { left = left }) _ _ refl refl)
+  select_keeps n [] items ws st = choose_keeps program (any_default items) _ _ st _ _ refl refl
+  select_keeps n (None ∷ cs) items ws st = tick_keeps program st _ _ (λ n. refl)
+  select_keeps n (Some c ∷ cs) items ws st =
+      tick_keeps program st _ (λ st. if same_int c n then goes (f.Enter (AtCase n) items) (f.Breaks ∷ ws) st else goes (f.Select n cs items) ws st) (λ left. choose_keeps program (same_int c n) _ _ (record st { left = left }) _ _ refl refl)
 
-  enter_keeps : (target : Target) (s : TypedStmt) (ws : List Frame) (st : State) → enter_at program (run program) target s (konts program ws).exits st ≡ after program (enter_step program target s ws st)
-  unfolding enter_at execs_from block konts
-  enter_keeps target (Compound items) ws st = tick_keeps program st _ (block_step program (block_locals items) (f.EnterAmong target items) ws) (λ n. block_keeps (block_locals items) (f.EnterAmong target items) ws (record st { left = n }))
-  enter_keeps target (Case value of body) ws st = choose_keeps program (is_case target value of) _ _ st _ _ (tick_keeps program st _ (λ st. goes (f.Exec body) ws st) (λ n. refl)) refl
-  enter_keeps target (Default body) ws st = choose_keeps program (is_default target) _ _ st _ _ (tick_keeps program st _ (λ st. goes (f.Exec body) ws st) (λ n. refl)) refl
-  enter_keeps target (InitLocal name) ws st = refl
-  enter_keeps target (Expression value) ws st = refl
-  enter_keeps target (If condition body) ws st = refl
-  enter_keeps target (IfElse condition when_true when_false) ws st = refl
-  enter_keeps target (While condition body) ws st = refl
-  enter_keeps target (DoWhile body condition) ws st = refl
-  enter_keeps target (For start condition after_body body) ws st = refl
-  enter_keeps target (Switch value body) ws st = refl
-  enter_keeps target Break ws st = refl
-  enter_keeps target Continue ws st = refl
-  enter_keeps target (Return value) ws st = refl
+  abbrev enters : Target → TypedStmt → Exits → State → Meaning
+  enters target s x st = given (behind_label target s) (λ body. tick st (exec program (run program) body x))
 
-  among_keeps : (target : Target) (ss : TypedStmts) (ws : List Frame) (st : State) → execs_from program (run program) target ss (konts program ws).exits st ≡ after program (step_of program (f.EnterAmong target ss) ws st)
-  unfolding enter_at execs_from konts
-  among_keeps target NoTStmts ws st = refl
-  among_keeps target (ConsTStmt s ss) ws st = choose_keeps program (has_label target s) _ _ st _ _ refl refl
+  -- a statement that has the label is entered behind it
+  label_is : (target : Target) (s : TypedStmt) (x : Exits) (st : State) → has_label target s ≡ true → enter_at program (run program) target s x st ≡ enters target s x st
+  unfolding enter_at execs_from choose
+  label_is target (Case value of body) x st h = by_test (is_case target value of) h (label_is target body x st)
+    where
+      by_test : (b : Bool) → (b || has_label target body) ≡ true
+          → (has_label target body ≡ true → enter_at program (run program) target body x st ≡ enters target body x st)
+          → choose b (λ st. tick st (exec program (run program) body x)) (enter_at program (run program) target body x) st ≡ given (if b then Some body else behind_label target body) (λ body. tick st (exec program (run program) body x))
+      by_test true h more = refl
+      by_test false h more = more h
+  label_is target (Default body) x st h = by_test (is_default target) h (label_is target body x st)
+    where
+      by_test : (b : Bool) → (b || has_label target body) ≡ true
+          → (has_label target body ≡ true → enter_at program (run program) target body x st ≡ enters target body x st)
+          → choose b (λ st. tick st (exec program (run program) body x)) (enter_at program (run program) target body x) st ≡ given (if b then Some body else behind_label target body) (λ body. tick st (exec program (run program) body x))
+      by_test true h more = refl
+      by_test false h more = more h
+  label_is target (Compound items) x st h = cc
+  label_is target (InitLocal name) x st h = cc
+  label_is target (Expression value) x st h = cc
+  label_is target (If condition body) x st h = cc
+  label_is target (IfElse condition when_true when_false) x st h = cc
+  label_is target (While condition body) x st h = cc
+  label_is target (DoWhile body condition) x st h = cc
+  label_is target (For start condition after_body body) x st h = cc
+  label_is target (Switch value body) x st h = cc
+  label_is target Break x st h = cc
+  label_is target Continue x st h = cc
+  label_is target (Return value) x st h = cc
+
+  given_map : {A B : Type 0} (o : Option A) (f : A → B) (go : B → Meaning) → given o (λ a. go (f a)) ≡ given (option_map f o) go
+  given_map None f go = refl
+  given_map (Some a) f go = refl
+
+  labelled_is : (target : Target) (ss : TypedStmts) (x : Exits) (st : State)
+      → execs_from program (run program) target ss x st ≡ given (labelled target ss) (λ l. tick st (exec program (run program) l.body (record x { next = execs program (run program) l.rest x })))
+  unfolding enter_at execs_from
+  labelled_is target NoTStmts x st = refl
+  labelled_is target (ConsTStmt s ss) x st = by_test (has_label target s) refl (labelled_is target ss x st)
+    where
+      by_test : (b : Bool) → has_label target s ≡ b
+          → execs_from program (run program) target ss x st ≡ given (labelled target ss) (λ l. tick st (exec program (run program) l.body (record x { next = execs program (run program) l.rest x })))
+          → choose b (enter_at program (run program) target s (record x { next = execs program (run program) ss x })) (execs_from program (run program) target ss x) st
+          ≡ given (if b then option_map (λ body. record { body = body; rest = ss }) (behind_label target s) else labelled target ss) (λ l. tick st (exec program (run program) l.body (record x { next = execs program (run program) l.rest x })))
+      by_test true h more = choose_true _ _ st ∙ label_is target s (record x { next = execs program (run program) ss x }) st h
+          ∙ given_map (behind_label target s) (λ body. record { body = body; rest = ss }) (λ (l : Labelled). tick st (exec program (run program) l.body (record x { next = execs program (run program) l.rest x })))
+      by_test false h more = choose_false _ _ st ∙ more
+
+  among_keeps : (target : Target) (ss : TypedStmts) (ws : List Frame) (st : State) → execs_from program (run program) target ss (konts program ws).exits st ≡ after program (among_step target ss ws st)
+  unfolding konts
+  among_keeps target ss ws st = labelled_is target ss (konts program ws).exits st
+      ∙ given_keeps program (labelled target ss) st _ _ (λ l. tick_keeps program st _ (λ st. goes (f.Exec l.body) (f.Then l.rest ∷ ws) st) (λ n. refl))
 
   -- ---- calls
 
@@ -329,7 +372,7 @@ module _ (program : ProgramTree) where
   status_keeps Null st = refl
 
   now_keeps : (now : Now) (ws : List Frame) (st : State) → resume program now (konts program ws) st ≡ after program (step_of program now ws st)
-  unfolding execs init_locals init_local loop redo test call konts
+  unfolding execs enter_at execs_from block init_locals init_local loop redo test call konts
   now_keeps (f.Eval same e) ws st = begin_keeps program same e ws st
   now_keeps (f.Gave v) [] st = status_keeps v st
   now_keeps (f.Gave v) (w ∷ ws) st = give_keeps program v w ws st
@@ -344,11 +387,12 @@ module _ (program : ProgramTree) where
   now_keeps (f.GiveCells cs) ws st = cells_keep cs.initials cs.owner cs.cells cs.size ws st
   now_keeps (f.GiveCell v cell rest) ws st =
       tick_keeps program st _ _ (λ left. given_keeps program (initialised_at st.world (record { owner = rest.owner; offset = cell.at }) cell.of v) (record st { left = left }) _ _ (λ w. refl))
-  now_keeps (f.Loop None step body) ws st = turn_keeps program st _ _ refl
-  now_keeps (f.Loop (Some condition) step body) ws st = refl
+  now_keeps (f.Loop None after_body body) ws st = turn_keeps program st _ _ refl
+  now_keeps (f.Loop (Some condition) after_body body) ws st = refl
   now_keeps (f.Redo body condition) ws st = turn_keeps program st _ _ refl
-  now_keeps (f.Select n cases body) ws st = select_keeps n cases body ws st
-  now_keeps (f.EnterAt target s) ws st = enter_keeps target s ws st
+  now_keeps (f.Select n cases items) ws st = select_keeps n cases items ws st
+  now_keeps (f.Enter target items) ws st =
+      tick_keeps program st _ (block_step program (block_locals items) (f.EnterAmong target items) ws) (λ n. block_keeps (block_locals items) (f.EnterAmong target items) ws (record st { left = n }))
   now_keeps (f.EnterAmong target ss) ws st = among_keeps target ss ws st
   now_keeps f.Next [] st = refl
   now_keeps f.Next (w ∷ ws) st = next_keeps w ws st

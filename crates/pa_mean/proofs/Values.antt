@@ -1,10 +1,11 @@
 -- A step keeps what a run gives: expressions, and what waits for values.
 use Rattle.std.proofs.Common.{◌≡◌, ℕ, zero, suc, pos, Bool, true, false, if◌then◌else◌, List, ◌∷◌, Option, Some, None, refl, ap, ◌∙◌}
+use Rattle.std.specs.Prelude.{ℤ}
 use Rattle.pa_pac.specs.declared.schema.Schema.{Schema}
 use Rattle.pa_ctype.specs.Traces.{Load, Call}
 use Rattle.pa_ctype.specs.Values as value
 use Rattle.pa_ctype.specs.Values.{Place, CValue, At, Code, Null}
-use Rattle.pa_typed.specs.Typed.{TypedExpr, LocalPlace, GlobalPlace, StringPlace, Same, Member, Index, Deref, Number, Load as LoadExpr, LoadSigned, Store, StoreSigned, AddressOf, FunctionValue, Convert, Unary, Binary, PointerAdd, PointerSub, Compare, And, Or, Choose, Comma, CallDirect, CallPointer, TypedStmt}
+use Rattle.pa_typed.specs.Typed.{TypedExpr, LocalPlace, GlobalPlace, StringPlace, Same, Member, Index, Deref, Number, Load as LoadExpr, LoadSigned, Store, StoreSigned, AddressOf, FunctionValue, Convert, Unary, Binary, PointerAdd, PointerSub, Compare, And, Or, Choose, Comma, CallDirect, CallPointer, TypedStmt, Compound, InitLocal, Expression, If, IfElse, While, DoWhile, For, Switch, Case, Default, Break, Continue, Return}
 use Rattle.pa_typed.specs.Units.{ProgramTree}
 use Rattle.pa_cmean.specs.Results.{Meaning, undefined, worked, turned, shown, given}
 use Rattle.pa_cmean.specs.Operations.{truth, literal, converted, unary, binary, moved, pointed, compared, pointee}
@@ -14,13 +15,13 @@ use Rattle.pa_ctype.specs.Types.{TypeTree}
 use Rattle.pa_cmean.specs.Calls as spec
 use Rattle.pa_cmean.specs.Calls.{is_plain, showing, under_of, function_type, call, call_pointer}
 use Rattle.pa_cmean.specs.Expressions.{add_pointer, subtract_pointers, load, load_signed, store, eval, evals}
-use Rattle.pa_cmean.specs.Statements.{switch_on}
+use Rattle.pa_cmean.specs.Statements.{switch_on, select, cases_of, has_default}
 use Rattle.pa_cmean.specs.Mean.{perform, run}
 use Rattle.pa_cmean.proofs.Laws.{run_is}
 use Rattle.pa_mean.specs.Frames.{Frame, Step}
 use Rattle.pa_mean.specs.Frames as f
-use Rattle.pa_mean.specs.Steps.{goes, ticked_step, tick_step, turn_step, given_step, value_step, begin, is_called_as, show_load, through_step, switch_step, give}
-use Rattle.pa_mean.specs.Meanings.{konts, frame, after}
+use Rattle.pa_mean.specs.Steps.{goes, ticked_step, tick_step, turn_step, given_step, value_step, begin, is_called_as, show_load, through_step, switch_to, switch_step, give}
+use Rattle.pa_mean.specs.Meanings.{konts, selected, frame, after}
 
 -- ---- what stands in front
 
@@ -109,16 +110,33 @@ module _ (program : ProgramTree) where
       ∙ choose_keeps (is_called_as (pointee (type_of function)) (function_type program name)) _ _ st _ _ refl refl
   through_keeps function vs Null ws st = refl
 
+  switch_to_keeps : (n : ℤ) (body : TypedStmt) (ws : List Frame) (st : State) → switch_on (value.Number n) (cases_of body) (has_default body) (selected program body (konts program ws).exits) (konts program ws).exits.next st ≡ after program (switch_to n body ws st)
+  unfolding switch_on select choose
+  switch_to_keeps n (Compound items) ws st = refl
+  switch_to_keeps n (InitLocal name) ws st = refl
+  switch_to_keeps n (Expression value) ws st = refl
+  switch_to_keeps n (If condition body) ws st = refl
+  switch_to_keeps n (IfElse condition when_true when_false) ws st = refl
+  switch_to_keeps n (While condition body) ws st = refl
+  switch_to_keeps n (DoWhile body condition) ws st = refl
+  switch_to_keeps n (For start condition after_body body) ws st = refl
+  switch_to_keeps n (Switch value body) ws st = refl
+  switch_to_keeps n (Case value of body) ws st = refl
+  switch_to_keeps n (Default body) ws st = refl
+  switch_to_keeps n Break ws st = refl
+  switch_to_keeps n Continue ws st = refl
+  switch_to_keeps n (Return value) ws st = refl
+
   switch_keeps : (v : CValue) (body : TypedStmt) (ws : List Frame) (st : State) → (frame program (f.Switches body) (konts program ws)).value v st ≡ after program (switch_step v body ws st)
   unfolding switch_on
-  switch_keeps (value.Number n) body ws st = refl
+  switch_keeps (value.Number n) body ws st = switch_to_keeps n body ws st
   switch_keeps (At place) body ws st = refl
   switch_keeps (Code name) body ws st = refl
   switch_keeps Null body ws st = refl
 
-  pub loop_keeps : (test : Option TypedExpr) (step : Option TypedExpr) (body : TypedStmt) (ws : List Frame) (st : State) → run program (Turn test step body) (konts program ws).exits st ≡ after program (goes (f.Loop test step body) ws st)
+  pub loop_keeps : (test : Option TypedExpr) (after_body : Option TypedExpr) (body : TypedStmt) (ws : List Frame) (st : State) → run program (Turn test after_body body) (konts program ws).exits st ≡ after program (goes (f.Loop test after_body body) ws st)
   unfolding perform
-  loop_keeps test step body ws st = run_is program (Turn test step body) (konts program ws).exits st
+  loop_keeps test after_body body ws st = run_is program (Turn test after_body body) (konts program ws).exits st
 
   pub redo_keeps : (body : TypedStmt) (test : TypedExpr) (ws : List Frame) (st : State) → run program (Redo body test) (konts program ws).exits st ≡ after program (goes (f.Redo body test) ws st)
   unfolding perform
@@ -153,8 +171,8 @@ module _ (program : ProgramTree) where
   give_keeps v f.Discards ws st = refl
   give_keeps v (f.Tests body) ws st = choose_keeps (truth v) _ _ st _ _ refl refl
   give_keeps v (f.Divides when_true when_false) ws st = choose_keeps (truth v) _ _ st _ _ refl refl
-  give_keeps v (f.TurnTest test step body) ws st = choose_keeps (truth v) _ _ st _ _ (turn_keeps st _ _ refl) refl
-  give_keeps v (f.Stepped test step body) ws st = loop_keeps test step body ws st
+  give_keeps v (f.TurnTest test after_body body) ws st = choose_keeps (truth v) _ _ st _ _ (turn_keeps st _ _ refl) refl
+  give_keeps v (f.Stepped test after_body body) ws st = loop_keeps test after_body body ws st
   give_keeps v (f.RedoTest body test) ws st = choose_keeps (truth v) _ _ st _ _ (redo_keeps body test ws st) refl
   give_keeps v (f.Switches body) ws st = switch_keeps v body ws st
   give_keeps v f.Gives ws st = refl
@@ -162,8 +180,8 @@ module _ (program : ProgramTree) where
   give_keeps v (f.Then rest) ws st = refl
   give_keeps v (f.Closes locals) ws st = refl
   give_keeps v (f.Initialises names) ws st = refl
-  give_keeps v (f.Loops test step body) ws st = refl
-  give_keeps v (f.Turns test step body) ws st = refl
+  give_keeps v (f.Loops test after_body body) ws st = refl
+  give_keeps v (f.Turns test after_body body) ws st = refl
   give_keeps v (f.Redoes body test) ws st = refl
   give_keeps v f.Breaks ws st = refl
   give_keeps v (f.Returns function caller) ws st = refl

@@ -90,8 +90,8 @@ pub data Now : Type 0 where
   GiveCell : (value : CValue) (cell : Cell) (rest : Cells) → Now
   Loop : (test : Option TypedExpr) (step : Option TypedExpr) (body : TypedStmt) → Now
   Redo : (body : TypedStmt) (test : TypedExpr) → Now
-  Select : (value : ℤ) (cases : List (Option ℤ)) (body : TypedStmt) → Now
-  EnterAt : (target : Target) (s : TypedStmt) → Now
+  Select : (value : ℤ) (cases : List (Option ℤ)) (items : TypedStmts) → Now
+  Enter : (target : Target) (items : TypedStmts) → Now
   EnterAmong : (target : Target) (ss : TypedStmts) → Now
   -- the ways out of a statement: behind it, `break`, `continue`, `return`
   Next : Now

@@ -1,7 +1,7 @@
 -- What a run by steps is to give: what is done next, and behind it what waits.
 use Rattle.std.specs.Prelude.{pos, true, false, List, [], ◌∷◌, Option, Some}
 use Rattle.pa_ctype.specs.Values.{Place, CValue, Cell}
-use Rattle.pa_typed.specs.Typed.{TypedExpr, TypedStmt}
+use Rattle.pa_typed.specs.Typed.{TypedExpr, TypedStmt, Compound}
 use Rattle.pa_typed.specs.Units.{ProgramTree}
 use Rattle.pa_cmean.specs.Results.{Meaning, ends, undefined, worked, turned, printed, shown, entered, given}
 use Rattle.pa_cmean.specs.Operations.{truth, of_truth, converted, unary, binary, moved, pointee, pointed, compared}
@@ -9,7 +9,7 @@ use Rattle.pa_cmean.specs.ExprTypes.{type_of}
 use Rattle.pa_cmean.specs.State.{State, Cont, Exits, Turn, Redo, turn, choose, closing, place_of}
 use Rattle.pa_cmean.specs.Calls.{call, call_pointer, under_of, exits_of}
 use Rattle.pa_cmean.specs.Expressions.{with_value, gives_truth, add_pointer, subtract_pointers, load, load_signed, store, eval, evals}
-use Rattle.pa_cmean.specs.Statements.{Target, cells_given, give_cell, init_locals, evaluate, test, loop, redo, looping, select, switch_on, cases_of, has_default, exec, execs, enter_at, execs_from}
+use Rattle.pa_cmean.specs.Statements.{Target, cells_given, give_cell, init_locals, evaluate, test, loop, redo, looping, select, switch_on, cases_of, has_default, any_default, exec, execs, enter_at, execs_from}
 use Rattle.pa_cmean.specs.Mean.{run, status}
 use Rattle.pa_mean.specs.Frames.{Callee, Named, Through, Cells, Frame, Now, Machine, Front, Step}
 use Rattle.pa_mean.specs.Frames as f
@@ -132,8 +132,8 @@ module _ (program : ProgramTree) where
   resume (f.GiveCell v cell rest) k = cell_of cell rest k.exits.next v
   resume (f.Loop condition step body) k = looped condition step body k.exits
   resume (f.Redo body condition) k = redone body condition k.exits
-  resume (f.Select n cases body) k = select n cases (has_default body) (selected body k.exits) k.exits.next
-  resume (f.EnterAt target s) k = enter_at program (run program) target s k.exits
+  resume (f.Select n cases items) k = select n cases (any_default items) (selected (Compound items) k.exits) k.exits.next
+  resume (f.Enter target items) k = enter_at program (run program) target (Compound items) k.exits
   resume (f.EnterAmong target ss) k = execs_from program (run program) target ss k.exits
   resume f.Next k = k.exits.next
   resume f.Leave k = k.exits.leave

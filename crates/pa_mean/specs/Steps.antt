@@ -8,7 +8,7 @@ use Rattle.pa_ctype.specs.Traces.{Load, Call}
 use Rattle.pa_ctype.specs.Values as value
 use Rattle.pa_ctype.specs.Values.{Owner, Global, Text, Place, CValue, At, Code, Cell, cells_in}
 use Rattle.pa_integer.specs.Integers.{residue, is_in_range, same_int}
-use Rattle.pa_typed.specs.Typed.{TypedExpr, TypedExprs, LocalPlace, GlobalPlace, StringPlace, Same, Member, Index, Deref, Number, Load as LoadExpr, LoadSigned, Store, StoreSigned, AddressOf, FunctionValue, Convert, Unary, Binary, PointerAdd, PointerSub, Compare, And, Or, Choose, Comma, CallDirect, CallPointer, NoTExprs, ConsTExpr, TypedInitial, TypedForStart, Declares, Evaluates, TypedStmt, Compound, InitLocal, Expression, If, IfElse, While, DoWhile, For, Switch, Case, Default, Break, Continue, Return, NoTStmts, ConsTStmt}
+use Rattle.pa_typed.specs.Typed.{TypedExpr, TypedExprs, LocalPlace, GlobalPlace, StringPlace, Same, Member, Index, Deref, Number, Load as LoadExpr, LoadSigned, Store, StoreSigned, AddressOf, FunctionValue, Convert, Unary, Binary, PointerAdd, PointerSub, Compare, And, Or, Choose, Comma, CallDirect, CallPointer, NoTExprs, ConsTExpr, TypedInitial, TypedForStart, Declares, Evaluates, TypedStmt, TypedStmts, Compound, InitLocal, Expression, If, IfElse, While, DoWhile, For, Switch, Case, Default, Break, Continue, Return, NoTStmts, ConsTStmt}
 use Rattle.pa_typed.specs.Units.{FunctionTree, ProgramTree, function_named}
 use Rattle.pa_cmean.specs.Results.{End, Done, Stop, Undefined}
 use Rattle.pa_cmean.specs.Operations.{truth, of_truth, nothing, converted, literal, unary, binary, moved, bytes_of, stepped, opposite, pointee, pointed, difference, compared}
@@ -16,10 +16,10 @@ use Rattle.pa_cmean.specs.ExprTypes.{type_of}
 use Rattle.pa_cmean.specs.State.{State, start, place_of, value_at, stored, initialised_at, owner_of, born, entering, left_behind, after_death}
 use Rattle.pa_cmean.specs.Calls.{putchar, getchar, main, gives_nothing, function_type, under_of, is_plain}
 use Rattle.pa_cmean.specs.Expressions.{noted}
-use Rattle.pa_cmean.specs.Statements.{Source, FromValue, FromByte, FromZero, next_source, is_last, zero_of, AtCase, AtDefault, Target, is_case, is_default, has_label, cases_of, has_default, block_locals, start_locals}
+use Rattle.pa_cmean.specs.Statements.{Source, FromValue, FromByte, FromZero, next_source, is_last, zero_of, AtCase, AtDefault, Target, is_case, is_default, has_label, item_cases, any_default, block_locals, start_locals}
 use Rattle.pa_mean.specs.Frames.{Callee, Named, Through, Cells, Frame, Now, Machine, Step}
 use Rattle.pa_mean.specs.Frames as f
-use Rattle.std.specs.Option.{option_and_then}
+use Rattle.std.specs.Option.{option_map, option_and_then}
 
 -- what is done next
 abbrev pub goes : Now → List Frame → State → Step
@@ -148,16 +148,29 @@ cells_step program is owner (cell ∷ cells) size ws st =
     given_step (next_source program is cell.at) st (λ n. source_step n.source cell (record { initials = n.rest; owner = owner; cells = cells; size = size }) ws st)
 
 -- the next case of a switch
-abbrev pub select_step : ℤ → List (Option ℤ) → TypedStmt → List Frame → State → Step
-select_step n [] body ws st = if has_default body then goes (f.EnterAt AtDefault body) (f.Breaks ∷ ws) st else goes f.Next ws st
-select_step n (None ∷ cs) body ws st = tick_step st (λ st. ends_at Undefined st)
-select_step n (Some c ∷ cs) body ws st = tick_step st (λ st. if same_int c n then goes (f.EnterAt (AtCase n) body) (f.Breaks ∷ ws) st else goes (f.Select n cs body) ws st)
+abbrev pub select_step : ℤ → List (Option ℤ) → TypedStmts → List Frame → State → Step
+select_step n [] items ws st = if any_default items then goes (f.Enter AtDefault items) (f.Breaks ∷ ws) st else goes f.Next ws st
+select_step n (None ∷ cs) items ws st = tick_step st (λ st. ends_at Undefined st)
+select_step n (Some c ∷ cs) items ws st = tick_step st (λ st. if same_int c n then goes (f.Enter (AtCase n) items) (f.Breaks ∷ ws) st else goes (f.Select n cs items) ws st)
 
-abbrev pub enter_step : ProgramTree → Target → TypedStmt → List Frame → State → Step
-enter_step program target (Compound items) ws st = tick_step st (block_step program (block_locals items) (f.EnterAmong target items) ws)
-enter_step program target (Case value of body) ws st = if is_case target value of then tick_step st (λ st. goes (f.Exec body) ws st) else goes (f.EnterAt target body) ws st
-enter_step program target (Default body) ws st = if is_default target then tick_step st (λ st. goes (f.Exec body) ws st) else goes (f.EnterAt target body) ws st
-enter_step program target _ ws st = ends_at Undefined st
+-- the statement behind a label
+abbrev pub behind_label : Target → TypedStmt → Option TypedStmt
+behind_label target (Case value of body) = if is_case target value of then Some body else behind_label target body
+behind_label target (Default body) = if is_default target then Some body else behind_label target body
+behind_label target _ = None
+
+-- it, and the statements behind it in its block
+pub record Labelled : Type 0 where
+  pub body : TypedStmt
+  pub rest : TypedStmts
+
+-- of these statements the first that has the label
+abbrev pub labelled : Target → TypedStmts → Option Labelled
+labelled target NoTStmts = None
+labelled target (ConsTStmt s ss) = if has_label target s then option_map (λ body. record { body = body; rest = ss }) (behind_label target s) else labelled target ss
+
+abbrev pub among_step : Target → TypedStmts → List Frame → State → Step
+among_step target ss ws st = given_step (labelled target ss) st (λ l. tick_step st (λ st. goes (f.Exec l.body) (f.Then l.rest ∷ ws) st))
 
 -- ---- calls
 
@@ -199,8 +212,13 @@ abbrev pub turn_behind : Option TypedExpr → Option TypedExpr → TypedStmt →
 turn_behind test None body ws st = goes (f.Loop test None body) ws st
 turn_behind test (Some e) body ws st = goes (f.Eval None e) (f.Stepped test (Some e) body ∷ ws) st
 
+-- to the labels of a switch's compound; any other body has none
+abbrev pub switch_to : ℤ → TypedStmt → List Frame → State → Step
+switch_to n (Compound items) ws st = goes (f.Select n (item_cases items) items) ws st
+switch_to n _ ws st = goes f.Next ws st
+
 abbrev pub switch_step : CValue → TypedStmt → List Frame → State → Step
-switch_step (value.Number n) body ws st = goes (f.Select n (cases_of body) body) ws st
+switch_step (value.Number n) body ws st = switch_to n body ws st
 switch_step _ body ws st = ends_at Undefined st
 
 -- a value reaches what waits for it
@@ -318,10 +336,9 @@ step_of program (f.GiveCell v cell rest) ws st =
 step_of program (f.Loop None step body) ws st = turn_step st.left st (goes (f.Exec body) (f.Turns None step body ∷ ws) st)
 step_of program (f.Loop (Some test) step body) ws st = goes (f.Eval None test) (f.TurnTest test step body ∷ ws) st
 step_of program (f.Redo body test) ws st = turn_step st.left st (goes (f.Exec body) (f.Redoes body test ∷ ws) st)
-step_of program (f.Select n cases body) ws st = select_step n cases body ws st
-step_of program (f.EnterAt target s) ws st = enter_step program target s ws st
-step_of program (f.EnterAmong target NoTStmts) ws st = ends_at Undefined st
-step_of program (f.EnterAmong target (ConsTStmt s ss)) ws st = if has_label target s then goes (f.EnterAt target s) (f.Then ss ∷ ws) st else goes (f.EnterAmong target ss) ws st
+step_of program (f.Select n cases items) ws st = select_step n cases items ws st
+step_of program (f.Enter target items) ws st = tick_step st (block_step program (block_locals items) (f.EnterAmong target items) ws)
+step_of program (f.EnterAmong target ss) ws st = among_step target ss ws st
 step_of program f.Next ws st = first_waiting next (ends_at Undefined) ws st
 step_of program f.Leave ws st = first_waiting leave (ends_at Undefined) ws st
 step_of program f.Proceed ws st = first_waiting proceed (ends_at Undefined) ws st
