@@ -1,0 +1,2 @@
+//! The C meaning by steps: a machine over one list of what waits.
+#![tactic(auto)]
