@@ -1,0 +1,4 @@
+pub mod Objects
+pub mod Results
+pub mod Calls
+pub mod Simulates
