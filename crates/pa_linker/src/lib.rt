@@ -1,0 +1,2 @@
+//! Objects of code and data, linked to one image.
+#![tactic(auto)]
