@@ -93,6 +93,21 @@ pub fn add(alloc: Global, types: &mut Types, rows: &[Row]) -> Result<Option<u32>
     Ok(Some(id))
 }
 
+/// The same in one call.
+fn add_whole(alloc: Global, types: &mut Types, rows: &[Row]) -> Result<Option<u32>, Memory>
+    requires { 10 ≤ types.old.names }
+    ensures names { types.new.names ≡ types.old.names }
+    ensures few { length types.old.structs ≤ 101 → length types.new.structs ≤ 101 }
+{
+    if types.struct_count() > 100 {
+        return Ok(None);
+    }
+    let Some(members) = members(alloc, types, rows)? else {
+        return Ok(None);
+    };
+    Ok(Some(types.declare_with(alloc, members)?))
+}
+
 /// Size and alignment, where the type has a layout.
 pub fn measures(types: &Types, number: u32) -> Option<(u64, u64)>
     requires { number < length types.now.nodes }
@@ -295,6 +310,22 @@ fn added(alloc: Global, types: &mut Types, rows: &[Row], laid: bool) -> Result<F
     Ok((true, size, lie, other))
 }
 
+/// Size and alignment of one more struct that comes with its members, if it has a layout.
+fn whole_measures(
+    alloc: Global,
+    types: &mut Types,
+    rows: &[Row],
+) -> Result<Option<(u64, u64)>, Memory>
+    requires { 10 ≤ types.old.names }
+    ensures names { types.new.names ≡ types.old.names }
+    ensures few { length types.old.structs ≤ 101 → length types.new.structs ≤ 101 }
+{
+    let Some(id) = add_whole(alloc, types, rows)? else {
+        return Ok(None);
+    };
+    sample_measures(alloc, types, Sample::Leaf(Leaf::Struct(id)))
+}
+
 #[test]
 fn types_have_their_layouts(rt: HostRuntime) -> Result<(), Fail> {
     let mut types = Types::new(rt.alloc(), NAMES);
@@ -312,6 +343,17 @@ fn structs_have_their_layouts(rt: HostRuntime) -> Result<(), Fail> {
         let got = added(rt.alloc(), &mut types, *rows, want.is_some()).map_err(|_| "no memory")?;
         assert_eq!(rt; got, (true, *want, true, None), "at {rows:?}");
     }
+    Ok(())
+}
+
+#[test]
+fn structs_that_come_with_their_bodies_have_the_same(rt: HostRuntime) -> Result<(), Fail> {
+    let mut types = Types::new(rt.alloc(), NAMES);
+    for (rows, want) in &STRUCTS {
+        let got = whole_measures(rt.alloc(), &mut types, *rows).map_err(|_| "no memory")?;
+        assert_eq!(rt; got, *want, "at {rows:?}");
+    }
+    assert_eq!(rt; types.struct_count(), STRUCTS.len());
     Ok(())
 }
 
