@@ -1,5 +1,5 @@
 -- What is known of a name says which rule its next declaration breaks, and stays known.
-use Rattle.std.proofs.Common.{◌≡◌, ◌≢◌, ℕ, Bool, true, false, cond, not, ◌&&◌, ◌||◌, List, [], ◌∷◌, Option, Some, None, refl, sym, ap, ◌∙◌, true≢false}
+use Rattle.std.proofs.Common.{◌≡◌, ℕ, Bool, true, false, cond, not, ◌&&◌, ◌||◌, List, ◌∷◌, Option, Some, None, refl, sym, ap, ◌∙◌}
 use Rattle.std.specs.List.{list_any}
 use Rattle.std.specs.Option.{option_or}
 use Rattle.std.specs.Str.{bytes_eq}
@@ -8,7 +8,6 @@ use Rattle.pa_ctype.specs.Types.{TypeTree}
 use Rattle.pa_ctype.specs.Equality.{same_type}
 use Rattle.pa_typed.specs.Units.{DeclaredTree}
 use Rattle.pa_link.specs.declared.known.KnownName.{KnownName}
-use Rattle.pa_link.specs.declared.rule.LinkRule.{LinkRule}
 use Rattle.pa_link.specs.Program.{Known, Part, defines, differs, breaks_at, learnt}
 use Rattle.pa_link.specs.Declaring.{is_other, broken, IsKnownOf, with_declaration}
 

@@ -1,5 +1,5 @@
 -- The first of places that may be there.
-use Rattle.std.proofs.Common.{◌≡◌, ℕ, min, nat_lt, cond, Bool, true, false, List, [], ◌∷◌, ◌++◌, Option, Some, None, refl, sym, ap, ◌∙◌, arith}
+use Rattle.std.proofs.Common.{◌≡◌, ℕ, min, List, [], ◌∷◌, ◌++◌, Option, Some, None, refl, sym, ap, ◌∙◌, arith}
 use Rattle.pa_link.specs.Missing.{earlier, earliest}
 
 pub earlier-none : (a : Option ℕ) → earlier a None ≡ a

@@ -1,11 +1,11 @@
 -- The first use of a name that isn't defined, on trees of the code and on those as plain data.
-use Rattle.std.proofs.Common.{◌≡◌, ℕ, min, nat_lt, Bool, true, false, List, [], ◌∷◌, ◌++◌, map, Option, Some, None, refl, sym, ap, ◌∙◌, subst, arith}
+use Rattle.std.proofs.Common.{◌≡◌, ℕ, min, nat_lt, Bool, List, [], ◌∷◌, ◌++◌, map, Option, Some, None, refl, sym, ap, ◌∙◌, subst, arith}
 use Rattle.std.specs.Option.{option_map}
 use Rattle.std.specs.Prelude.{flat_map, filter_map, if◌then◌else◌}
 use Rattle.std.specs.List.{cons_option}
 use Rattle.std.proofs.lemmas.Bool.Decides.{nat_tests}
 use Rattle.pa_ctype.specs.Types.{TypeTree}
-use Rattle.pa_typed.specs.declared.expr.TExpr.{TExpr, fold-TExpr, fold-roll-TExpr}
+use Rattle.pa_typed.specs.declared.expr.TExpr.{TExpr, fold-roll-TExpr}
 use Rattle.pa_typed.specs.declared.expr.TExpr.TheOpen.{TExpr-F}
 use Rattle.pa_typed.specs.declared.expr.TExpr.TheFolds.{ind-TExpr, map-TExpr}
 use Rattle.pa_typed.specs.declared.stmt.Given.{Given}
@@ -14,7 +14,7 @@ use Rattle.pa_typed.specs.declared.stmt.Initial.{Initial}
 use Rattle.pa_typed.specs.declared.stmt.LocalInit.{LocalInit}
 use Rattle.pa_typed.specs.declared.stmt.TForStart.{TForStart}
 use Rattle.pa_typed.specs.declared.stmt.TForStart.TheVariants as vTForStart
-use Rattle.pa_typed.specs.declared.stmt.TStmt.{TStmt, fold-TStmt, fold-roll-TStmt}
+use Rattle.pa_typed.specs.declared.stmt.TStmt.{TStmt, fold-roll-TStmt}
 use Rattle.pa_typed.specs.declared.stmt.TStmt.TheOpen.{TStmt-F}
 use Rattle.pa_typed.specs.declared.stmt.TStmt.TheFolds.{ind-TStmt, map-TStmt}
 use Rattle.pa_typed.specs.declared.unit.Cell.{Cell}

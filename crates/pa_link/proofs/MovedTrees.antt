@@ -2,8 +2,7 @@
 use Rattle.std.proofs.Common.{◌≡◌, ℕ, ◌+◌, List, [], ◌∷◌, map, Option, Some, None, refl, sym, ap, ◌∙◌, subst}
 use Rattle.std.specs.Option.{option_map}
 use Rattle.pa_ctype.specs.Types.{TypeTree}
-use Rattle.pa_typed.specs.declared.expr.TExpr.{TExpr, fold-TExpr, fold-roll-TExpr}
-use Rattle.pa_typed.specs.declared.expr.TExpr.TheVariants as vTExpr
+use Rattle.pa_typed.specs.declared.expr.TExpr.{TExpr, fold-roll-TExpr}
 use Rattle.pa_typed.specs.declared.expr.TExpr.TheOpen.{TExpr-F}
 use Rattle.pa_typed.specs.declared.expr.TExpr.TheFolds.{ind-TExpr, map-TExpr}
 use Rattle.pa_typed.specs.declared.stmt.Given.{Given}
@@ -12,8 +11,7 @@ use Rattle.pa_typed.specs.declared.stmt.Initial.{Initial}
 use Rattle.pa_typed.specs.declared.stmt.LocalInit.{LocalInit}
 use Rattle.pa_typed.specs.declared.stmt.TForStart.{TForStart}
 use Rattle.pa_typed.specs.declared.stmt.TForStart.TheVariants as vTForStart
-use Rattle.pa_typed.specs.declared.stmt.TStmt.{TStmt, fold-TStmt, fold-roll-TStmt}
-use Rattle.pa_typed.specs.declared.stmt.TStmt.TheVariants as vTStmt
+use Rattle.pa_typed.specs.declared.stmt.TStmt.{TStmt, fold-roll-TStmt}
 use Rattle.pa_typed.specs.declared.stmt.TStmt.TheOpen.{TStmt-F}
 use Rattle.pa_typed.specs.declared.stmt.TStmt.TheFolds.{ind-TStmt, map-TStmt}
 use Rattle.pa_typed.specs.declared.unit.Cell.{Cell}
@@ -27,8 +25,8 @@ use Rattle.pa_typed.specs.Units.{local_tree, function_tree, cell_tree, global_tr
 use Rattle.pa_typed.specs.Views.{t_exprs_of, t_stmts_of, t_expr_layer, t_expr_tree, given_tree, initial_tree, local_init_tree, t_for_start_tree, t_stmt_layer, t_stmt_tree}
 use Rattle.pa_typed.proofs.Views.{tree-LocalPlace, tree-GlobalPlace, tree-StringPlace, tree-Same, tree-Member, tree-Index, tree-Deref, tree-Number, tree-Load, tree-LoadSigned, tree-Store, tree-StoreSigned, tree-AddressOf, tree-FunctionValue, tree-Convert, tree-Unary, tree-Binary, tree-PointerAdd, tree-PointerSub, tree-Compare, tree-And, tree-Or, tree-Choose, tree-Comma, tree-CallDirect, tree-CallPointer, tree-Compound, tree-InitLocal, tree-Expression, tree-If, tree-IfElse, tree-While, tree-DoWhile, tree-For, tree-Switch, tree-Case, tree-Default, tree-Break, tree-Continue, tree-Return}
 use Rattle.pa_link.specs.declared.numbering.Numbering.{Numbering}
-use Rattle.pa_link.specs.Moved.{Move, moved_name, moved_type, moved_expr, moved_exprs, moved_given, moved_initial, moved_local_init, moved_start, moved_stmt, moved_stmts, moved_local, moved_function, moved_cell, moved_global, moved_declared}
-use Rattle.pa_link.specs.Numbering.{name_number, type_number, numbered_type, expr_layer, numbered_expr, numbered_given, numbered_initial, numbered_local_init, numbered_start, stmt_layer, numbered_stmt, numbered_local, numbered_function, numbered_cell, numbered_global, numbered_declared}
+use Rattle.pa_link.specs.Moved.{Move, moved_expr, moved_exprs, moved_given, moved_initial, moved_local_init, moved_start, moved_stmt, moved_stmts, moved_local, moved_function, moved_cell, moved_global, moved_declared}
+use Rattle.pa_link.specs.Numbering.{name_number, numbered_type, expr_layer, numbered_expr, numbered_given, numbered_initial, numbered_local_init, numbered_start, stmt_layer, numbered_stmt, numbered_local, numbered_function, numbered_cell, numbered_global, numbered_declared}
 use Rattle.pa_link.specs.Agreeing.{Agrees}
 
 module _ (n : Numbering) (mv : Move) (nu np : ℕ → List ℕ) (mu mp : ℕ → TypeTree) (agrees : Agrees n mv nu np mu mp) where

@@ -1,7 +1,9 @@
 pub mod Agreeing
 pub mod Declaring
+pub mod Limits
 pub mod Missing
 pub mod Moved
+pub mod NameNumbers
 pub mod Names
 pub mod Numbering
 pub mod Program

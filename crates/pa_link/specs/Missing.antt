@@ -1,6 +1,5 @@
 -- The first place of the trees of a file where a name is used that isn't defined.
 use Rattle.std.specs.Prelude.{ℕ, min, Bool, List, [], ◌∷◌, map, slice_get, unwrap_or, if◌then◌else◌, Option, Some, None}
-use Rattle.std.specs.Option.{option_map}
 use Rattle.pa_typed.specs.declared.expr.TExpr.{TExpr, fold-TExpr}
 use Rattle.pa_typed.specs.declared.expr.TExpr.TheOpen.{TExpr-F}
 use Rattle.pa_typed.specs.declared.stmt.Given.{Given}

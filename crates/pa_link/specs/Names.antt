@@ -14,6 +14,10 @@ texts_of = map (λ name. name.now)
 abbrev pub is_noted : List (Bor (List ℕ)) → List ℕ → Bool
 is_noted names text = list_any (λ name. bytes_eq text name.now) names
 
+-- with this name, which goes last if it is new
+abbrev pub with_name : List (List ℕ) → List ℕ → List (List ℕ)
+with_name names name = if list_any (bytes_eq name) names then names else names ++ name ∷ []
+
 -- the names only grow, at the end
 abbrev pub IsGrown : List (Bor (List ℕ)) → List (Bor (List ℕ)) → Type 0
 IsGrown old new = (more : List (List ℕ)) × (texts_of new ≡ texts_of old ++ more)

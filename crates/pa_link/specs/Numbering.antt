@@ -1,5 +1,5 @@
 -- The trees of a file with the numbers that names, types and string literals have in the program.
-use Rattle.std.specs.Prelude.{ℕ, ◌+◌, List, map, slice_get, unwrap_or}
+use Rattle.std.specs.Prelude.{ℕ, ◌+◌, map, slice_get, unwrap_or}
 use Rattle.std.specs.Option.{option_map}
 use Rattle.pa_typed.specs.declared.expr.ExprType.{ExprType}
 use Rattle.pa_typed.specs.declared.expr.TExpr.{TExpr, fold-TExpr}

@@ -3,6 +3,9 @@
 
 mod definitions;
 mod known;
+mod limits;
+mod missing;
+mod names;
 mod numbering;
 mod rule;
 
