@@ -9,6 +9,8 @@ pub mod Steps
 pub mod Branching
 mod Bytes
 mod Keeping
+mod Places
+mod Comparing
 pub mod Giving
 mod Contents
 pub mod Operations
@@ -19,4 +21,9 @@ pub mod Entering
 pub mod Loading
 mod Changing
 pub mod Stores
-pub mod Places
+pub mod Resuming
+mod Parameters
+mod Born
+pub mod Entries
+pub mod Imports
+pub mod Units

@@ -8,7 +8,7 @@ use Rattle.pa_lir.specs.declared.op.Op.TheVariants as op
 use Rattle.pa_lir.specs.declared.op.BinOp.{BinOp}
 use Rattle.pa_lir.specs.declared.op.UnOp.{UnOp}
 use Rattle.pa_lir.specs.Flow.{place_of_label}
-use Rattle.pa_lir.specs.Operators.{of_numbers, of_number, binary}
+use Rattle.pa_lir.specs.Operators.{of_number, binary}
 use Rattle.pa_lir.specs.Parts.{held}
 use Rattle.pa_lir.specs.Values.{FlatValue, Number, At, Code, Objects, extended}
 use Rattle.pa_lir.specs.Meaning.{Open, temp, with_temp, putchar, getchar}
@@ -26,14 +26,12 @@ use Rattle.pa_selected.specs.Calls.{HasCallFrames}
 use Rattle.pa_selected.proofs.Linked.{some_stored}
 use Rattle.pa_selected.proofs.Storing.{slot, bin_gives}
 use Rattle.pa_selected.proofs.Operating.{computed_by}
-use Rattle.pa_selected.proofs.Places.{sum_stands, difference_stands, distance_is}
+use Rattle.pa_selected.proofs.Comparing.{binary_stands}
 use Rattle.pa_mem.proofs.Ranges.{load-lt}
-use Rattle.pa_num.specs.Arithmetic.{sub64}
-use Rattle.pa_lir.specs.declared.op.BinOp.TheVariants as bin
 use Rattle.pa_lir.specs.Parts.{above}
 use Rattle.pa_selected.proofs.Straight.{runs_on}
 use Rattle.pa_selected.proofs.Branching.{MovesTo, moved, label_runs, jump_runs, branch_falls, branch_goes}
-use Rattle.pa_selected.proofs.Steps.{bin_runs, code_of_op, const_runs, extend_runs, follows, local_runs, room_at, temp_below, un_runs}
+use Rattle.pa_selected.proofs.Steps.{code_of_op, const_runs, extend_runs, follows, local_runs, room_at, temp_below, un_runs}
 use Rattle.pa_selected.proofs.Keeping.{placed_later}
 use Rattle.pa_selected.proofs.Giving.{Ready, Moves, open_call, function_placed, follows_ready}
 
@@ -130,15 +128,8 @@ module _ (w : World) (addresses : Addresses) (objects : Objects) (o : Open) (os 
       (some_stored o.function (constant 9 value) to) (words_at_most o.function (op.Const to value) tt)
       (const_runs w addresses o m (open_call w addresses objects o os m ready) (function_placed w addresses objects o os m ready) ready.at to value small e)
 
-  pub bin_moves : (to : ℕ) (operator : BinOp) (left right x y z : ℕ) → slice_get o.function.ops o.at ≡ Some (op.Bin to operator left right) → temp o left ≡ Some (Number x) → temp o right ≡ Some (Number y) → of_numbers operator x y ≡ Some z
-      → Moves w addresses objects (with_temp to (Number z) o) os m 1 8
-  bin_moves to operator left right x y z e l r means =
-      follows_ready w addresses objects o os m ready (op.Bin to operator left right) to (Number z) 8
-      (let behind = some_stored o.function (code.binary operator) to in let all = length-append (operands o.function left right) (code.binary operator ++ store_temp o.function 9 to) in omega (arith, behind, all)) (words_at_most o.function (op.Bin to operator left right) tt)
-      (bin_runs w addresses o m (open_call w addresses objects o os m ready) (function_placed w addresses objects o os m ready) ready.at to operator left right x y z e l r means)
-
   -- of operands for whose words the instructions make one that stands for the value
-  pub bin_stands_moves : (to : ℕ) (operator : BinOp) (left right : ℕ) (u v value : FlatValue) → slice_get o.function.ops o.at ≡ Some (op.Bin to operator left right) → temp o left ≡ Some u → temp o right ≡ Some v
+  bin_stands_moves : (to : ℕ) (operator : BinOp) (left right : ℕ) (u v value : FlatValue) → slice_get o.function.ops o.at ≡ Some (op.Bin to operator left right) → temp o left ≡ Some u → temp o right ≡ Some v
       → StandsFor addresses value (computed_by operator (slot o.function m left) (slot o.function m right)) → Moves w addresses objects (with_temp to value o) os m 1 8
   unfolding above
   bin_stands_moves to operator left right u v value e l r stands =
@@ -155,24 +146,12 @@ module _ (w : World) (addresses : Addresses) (objects : Objects) (o : Open) (os 
   word_fits : (t : ℕ) → slot o.function m t < 2 ^ 64
   word_fits t = let h = load-lt 8 m.memory (m.sp + place_of_temp o.function t) ready.running.widths.memory in omega arith
 
-  -- a place and a number, and a number less
-  pub place_plus_moves : (to left right p i n : ℕ) (value : FlatValue) → slice_get o.function.ops o.at ≡ Some (op.Bin to bin.Add left right) → temp o left ≡ Some (At p i) → temp o right ≡ Some (Number n) → binary objects bin.Add (At p i) (Number n) ≡ Some value
+  -- any values for which the operator is defined
+  pub bin_moves : (to : ℕ) (operator : BinOp) (left right : ℕ) (u v value : FlatValue) → slice_get o.function.ops o.at ≡ Some (op.Bin to operator left right) → temp o left ≡ Some u → temp o right ≡ Some v → binary objects operator u v ≡ Some value
       → Moves w addresses objects (with_temp to value o) os m 1 8
-  place_plus_moves to left right p i n value e l r means =
-      bin_stands_moves to bin.Add left right (At p i) (Number n) value e l r
-      (sum_stands addresses objects m.memory ready.lie p i n (slot o.function m left) (slot o.function m right) value (word_in_slot left (At p i) l).1 (word_in_slot right (Number n) r).1 means)
-
-  pub place_less_moves : (to left right p i n : ℕ) (value : FlatValue) → slice_get o.function.ops o.at ≡ Some (op.Bin to bin.Sub left right) → temp o left ≡ Some (At p i) → temp o right ≡ Some (Number n) → binary objects bin.Sub (At p i) (Number n) ≡ Some value
-      → Moves w addresses objects (with_temp to value o) os m 1 8
-  place_less_moves to left right p i n value e l r means =
-      bin_stands_moves to bin.Sub left right (At p i) (Number n) value e l r
-      (difference_stands addresses objects m.memory ready.lie p i n (slot o.function m left) (slot o.function m right) value (word_fits right) (word_in_slot left (At p i) l).1 (word_in_slot right (Number n) r).1 means)
-
-  -- two places of one object
-  pub distance_moves : (to left right p i j : ℕ) → slice_get o.function.ops o.at ≡ Some (op.Bin to bin.Sub left right) → temp o left ≡ Some (At p i) → temp o right ≡ Some (At p j) → Moves w addresses objects (with_temp to (Number (sub64 i j)) o) os m 1 8
-  distance_moves to left right p i j e l r =
-      bin_stands_moves to bin.Sub left right (At p i) (At p j) (Number (sub64 i j)) e l r
-      (distance_is addresses objects m.memory ready.lie p i j (slot o.function m left) (slot o.function m right) (word_fits left) (word_fits right) (word_in_slot left (At p i) l).1 (word_in_slot right (At p j) r).1)
+  bin_moves to operator left right u v value e l r means =
+      bin_stands_moves to operator left right u v value e l r
+      (binary_stands addresses objects m.memory ready.lie (slot o.function m left) (slot o.function m right) (word_fits left) (word_fits right) operator u v value (word_in_slot left u l).1 (word_in_slot right v r).1 means)
 
   pub un_moves : (to : ℕ) (operator : UnOp) (from x : ℕ) → slice_get o.function.ops o.at ≡ Some (op.Un to operator from) → temp o from ≡ Some (Number x) → Moves w addresses objects (with_temp to (Number (of_number operator x)) o) os m 1 5
   un_moves to operator from x e v =

@@ -63,7 +63,7 @@ width_some n (inr (inr (inl e))) = omega arith
 width_some n (inr (inr (inr e))) = omega arith
 
 -- the newest call at another of its operations
-frames_at : (w : World) (addresses : Addresses) (objects : Objects) (memory : List Region) (born base : ℕ) (o : Open) (os : List Open) (k : ℕ) → HasCallFrames w addresses objects memory born base (o ∷ os) → HasCallFrames w addresses objects memory born base (moved o k ∷ os)
+pub frames_at : (w : World) (addresses : Addresses) (objects : Objects) (memory : List Region) (born base : ℕ) (o : Open) (os : List Open) (k : ℕ) → HasCallFrames w addresses objects memory born base (o ∷ os) → HasCallFrames w addresses objects memory born base (moved o k ∷ os)
 unfolding HasCallFrames
 frames_at w addresses objects memory born base o os k f = (
   record {
