@@ -1,9 +1,9 @@
 -- How an open call of flat code stands to that of C's meaning.
-use Rattle.std.specs.Prelude.{◌≡◌, ◌≤◌, ◌<◌, ℕ, ◌+◌, Bool, true, false, if◌then◌else◌, List, ◌∷◌, length, get_or, slice_get, Option, Some, None, option_and_then}
+use Rattle.std.specs.Prelude.{◌≡◌, ◌≤◌, ◌<◌, ℕ, ◌+◌, false, if◌then◌else◌, List, ◌∷◌, length, slice_get, Option, Some, None, option_and_then}
 use Rattle.pa_ctype.specs.Values.{Owner, Local}
 use Rattle.pa_ctype.specs.Types.{TypeTree}
 use Rattle.pa_typed.specs.Units.{LocalTree}
-use Rattle.pa_cmean.specs.State.{Here, World, State, owner_of}
+use Rattle.pa_cmean.specs.State.{World, State, owner_of}
 use Rattle.pa_lir.specs.declared.function.LirFn.{LirFn}
 use Rattle.pa_lir.specs.Values as flat
 use Rattle.pa_lir.specs.Values.{FlatValue}

@@ -1,6 +1,6 @@
 -- When a run of flat code gives what C's meaning gives from a moment on, within its costs (C11 5.1.2.3).
-use Rattle.std.specs.Prelude.{◌≡◌, ◌≤◌, ℕ, ◌+◌, ◌*◌, max, List, [], ◌∷◌, ◌++◌, map, reverse, Option, Some, None, option_map, unwrap_or}
-use Rattle.pa_ctype.specs.Values.{Owner, Global, Text, Local, Place}
+use Rattle.std.specs.Prelude.{◌≡◌, ◌≤◌, ℕ, ◌+◌, ◌*◌, max, ◌++◌, map, reverse, Option, Some, None, option_map, unwrap_or}
+use Rattle.pa_ctype.specs.Values.{Owner, Local, Place}
 use Rattle.pa_ctype.specs.Traces.{Under, Seen, Enter, Load, Call, Trace}
 use Rattle.pa_cmean.specs.Results.{Meaning, End, Done, Stop, Undefined}
 use Rattle.pa_lir.specs.declared.function.Lir.{Lir}

@@ -1,0 +1,5 @@
+pub mod Containing
+pub mod Following
+pub mod Stepping
+pub mod Standing
+pub mod Evaluating
