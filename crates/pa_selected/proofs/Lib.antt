@@ -27,3 +27,7 @@ mod Born
 pub mod Entries
 pub mod Imports
 pub mod Units
+mod States
+pub mod Acting
+pub mod Arriving
+pub mod Whole

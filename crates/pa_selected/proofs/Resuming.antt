@@ -163,7 +163,7 @@ module _ (addresses : Addresses) (objects : Objects) (first n : ℕ) where
 
 -- ---- where the caller goes on
 
-canonical_low : (back : ℕ) → back < 2 ^ 47 → canonical back ≡ back
+pub canonical_low : (back : ℕ) → back < 2 ^ 47 → canonical back ≡ back
 unfolding canonical
 canonical_low back low = omega arith
 

@@ -2,3 +2,4 @@ pub mod Worlds
 pub mod Values
 pub mod Calls
 pub mod Runs
+pub mod Whole
