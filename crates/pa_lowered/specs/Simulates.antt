@@ -42,7 +42,6 @@ abbrev pub IsIn : Map → TypeTree → CValue → Option FlatValue → Type 0
 IsIn m (Of constant Void) v o = Unit {0}
 IsIn m of v o = (u : FlatValue) × (o ≡ Some u) × Stands m of v u
 
-
 -- the temporaries of a room are apart, and below the free ones
 pub record IsRoom (r : Room) : Type 0 where
   pub to : r.to < r.free
