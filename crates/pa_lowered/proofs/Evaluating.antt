@@ -58,7 +58,7 @@ module _ (program : ProgramTree) (lir : Lir) (again : Again) (bound : ℕ) (w : 
   pub both_follow : (left right : TypedExpr) → SimExpr left → SimExpr right → (n i : ℕ) (r : Room) (same : Option Place) (at c l : ℕ) (rest : List Op) (k : CValue → CValue → State → Meaning) (ts : Temps) (m : Map) (st : State) (s : Flat)
       → IsRoom r → Contains w.function.ops at (expr_ops n r left ++ (expr_ops i (next_room r) right ++ rest))
       → ((u v : CValue) (ts2 : Temps) (m2 : Map) (st2 : State) (s2 : Flat) → st2.left < bound → Grows m m2 → At w live (at + length (expr_ops n r left) + length (expr_ops i (next_room r) right)) ts2 m2 st2 s2
-          → IsIn m2 (type_of left) u (temp_in ts2 r.to) → IsIn m2 (type_of right) v (temp_in ts2 r.free) → Keeps r ts ts2 → Contains w.function.ops (at + length (expr_ops n r left) + length (expr_ops i (next_room r) right)) rest → Follows lir m2 c l (k u v st2) s2)
+      → IsIn m2 (type_of left) u (temp_in ts2 r.to) → IsIn m2 (type_of right) v (temp_in ts2 r.free) → Keeps r ts ts2 → Contains w.function.ops (at + length (expr_ops n r left) + length (expr_ops i (next_room r) right)) rest → Follows lir m2 c l (k u v st2) s2)
       → st.left ≤ bound → At w live at ts m st s → HasSame m same r ts → Follows lir m c l (eval program again same left (λ u. eval program again same right (k u)) st) s
   both_follow left right is_left is_right n i r same at c l rest k ts m st s room code then le a around =
       let first = expr_ops n r left in let second = expr_ops i (next_room r) right in

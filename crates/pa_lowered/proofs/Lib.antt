@@ -3,3 +3,6 @@ pub mod Following
 pub mod Stepping
 pub mod Standing
 pub mod Evaluating
+pub mod Numbers
+pub mod Constants
+pub mod Deciding
