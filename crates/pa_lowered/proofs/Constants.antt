@@ -33,7 +33,7 @@ module _ (program : ProgramTree) (lir : Lir) (again : Again) (bound : ℕ) (w : 
   number_simulates bits of z is same_bits = record {
     by = λ n r same at c d l go ts m st s room cheap code t le a around.
         tick_follows lir m c l bound st s _ a.ended le (λ j lt.
-            given_follows lir m (c + 64) l _ (λ v. go v (record st { left = j })) s (λ v e.
-                value_follows program lir again bound w live at (at + 1) (c + 64) d l r of ts ts m m go v (flat.Number bits) (record st { left = j }) s (op.Const r.to bits) lt (grows_same m) (with_left w live at j ts m st s a) (keeps_same r ts) code.0 refl (omega arith)
-                (subst (λ x. Stands m of x (flat.Number bits)) (some_is v z (sym e ∙ ap (literal of) same_bits ∙ literal_is of z is)) (is, ap flat.Number same_bits)) (omega arith) t));
+        given_follows lir m (c + 64) l _ (λ v. go v (record st { left = j })) s (λ v e.
+        value_follows program lir again bound w live at (at + 1) (c + 64) d l r of ts ts m m go v (flat.Number bits) (record st { left = j }) s (op.Const r.to bits) lt (grows_same m) (with_left w live at j ts m st s a) (keeps_same r ts) code.0 refl (omega arith)
+        (subst (λ x. Stands m of x (flat.Number bits)) (some_is v z (sym e ∙ ap (literal of) same_bits ∙ literal_is of z is)) (is, ap flat.Number same_bits)) (omega arith) t));
   }

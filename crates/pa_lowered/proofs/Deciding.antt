@@ -22,12 +22,12 @@ module _ (program : ProgramTree) (lir : Lir) (again : Again) (bound : ℕ) (w : 
     by = λ n r same at c d l go ts m st s room cheap code t le a around.
         let a_ops = expr_ops n r first in let b_ops = expr_ops (n + expr_labels first) r second in
         tick_follows lir m c l bound st s _ a.ended le (λ j lt.
-            is_first.by n r same at (c + 64) (c + 64) l _ ts m (record st { left = j }) s room (omega arith) (contains_front w.function.ops at a_ops b_ops code)
-            (record {
-              by = λ v ts1 m1 st1 s1 lt1 g1 a1 in1 kept1.
-                  is_second.by (n + expr_labels first) r same (at + length a_ops) (c + 64) d l go ts1 m1 st1 s1 room (omega arith) (contains_behind w.function.ops at a_ops b_ops code)
-                  (subst (λ z. TakesAt program lir again bound w live (at + length a_ops + length b_ops) r z ts1 m1 d l go) (sym typed) (takes_at program lir again bound w live (at + length (a_ops ++ b_ops)) (at + length a_ops + length b_ops) r of ts1 m1 d l go (omega (arith, length-append a_ops b_ops)) (takes_grown program lir again bound w live _ r of ts ts1 m m1 d l go g1 kept1 t)))
-                  (omega arith) a1 (same_later m m1 same r ts ts1 room g1 kept1 around);
-            })
-            (omega arith) (with_left w live at j ts m st s a) around);
+        is_first.by n r same at (c + 64) (c + 64) l _ ts m (record st { left = j }) s room (omega arith) (contains_front w.function.ops at a_ops b_ops code)
+        (record {
+          by = λ v ts1 m1 st1 s1 lt1 g1 a1 in1 kept1.
+              is_second.by (n + expr_labels first) r same (at + length a_ops) (c + 64) d l go ts1 m1 st1 s1 room (omega arith) (contains_behind w.function.ops at a_ops b_ops code)
+              (subst (λ z. TakesAt program lir again bound w live (at + length a_ops + length b_ops) r z ts1 m1 d l go) (sym typed) (takes_at program lir again bound w live (at + length (a_ops ++ b_ops)) (at + length a_ops + length b_ops) r of ts1 m1 d l go (omega (arith, length-append a_ops b_ops)) (takes_grown program lir again bound w live _ r of ts ts1 m m1 d l go g1 kept1 t)))
+              (omega arith) a1 (same_later m m1 same r ts ts1 room g1 kept1 around);
+        })
+        (omega arith) (with_left w live at j ts m st s a) around);
   }

@@ -19,12 +19,15 @@ by_width P a b c d bits w = at_8 (bits == 8) refl
     at_64 : (t : Bool) → (bits == 64) ≡ t → (bits == 32) ≡ false → (bits == 16) ≡ false → (bits == 8) ≡ false → P bits
     at_64 true e f g h = subst P (sym (grind (arith, nat_tests))) d
     at_64 false e f g h = absurd (grind (arith, nat_tests))
+
     at_32 : (t : Bool) → (bits == 32) ≡ t → (bits == 16) ≡ false → (bits == 8) ≡ false → P bits
     at_32 true e f g = subst P (sym (grind (arith, nat_tests))) c
     at_32 false e f g = at_64 (bits == 64) refl e f g
+
     at_16 : (t : Bool) → (bits == 16) ≡ t → (bits == 8) ≡ false → P bits
     at_16 true e f = subst P (sym (grind (arith, nat_tests))) b
     at_16 false e f = at_32 (bits == 32) refl e f
+
     at_8 : (t : Bool) → (bits == 8) ≡ t → P bits
     at_8 true e = subst P (sym (grind (arith, nat_tests))) a
     at_8 false e = at_16 (bits == 16) refl e
@@ -42,16 +45,19 @@ returns bits w = by_width Returns at_8 at_16 at_32 at_64 bits w
     at_8 false (negsuc n) h = cc
     at_8 true (pos n) h = grind (arith, nat_tests)
     at_8 true (negsuc n) h = grind (arith, nat_tests)
+
     at_16 : Returns 16
     at_16 false (pos n) h = ap pos (grind (arith, nat_tests))
     at_16 false (negsuc n) h = cc
     at_16 true (pos n) h = grind (arith, nat_tests)
     at_16 true (negsuc n) h = grind (arith, nat_tests)
+
     at_32 : Returns 32
     at_32 false (pos n) h = ap pos (grind (arith, nat_tests))
     at_32 false (negsuc n) h = cc
     at_32 true (pos n) h = grind (arith, nat_tests)
     at_32 true (negsuc n) h = grind (arith, nat_tests)
+
     at_64 : Returns 64
     at_64 false (pos n) h = ap pos (grind (arith, nat_tests))
     at_64 false (negsuc n) h = cc
@@ -71,16 +77,19 @@ extends_is bits w = by_width Extends at_8 at_16 at_32 at_64 bits w
     at_8 false (negsuc n) = omega arith
     at_8 true (pos n) = grind (arith, nat_tests)
     at_8 true (negsuc n) = grind (arith, nat_tests)
+
     at_16 : Extends 16
     at_16 false (pos n) = omega arith
     at_16 false (negsuc n) = omega arith
     at_16 true (pos n) = grind (arith, nat_tests)
     at_16 true (negsuc n) = grind (arith, nat_tests)
+
     at_32 : Extends 32
     at_32 false (pos n) = omega arith
     at_32 false (negsuc n) = omega arith
     at_32 true (pos n) = grind (arith, nat_tests)
     at_32 true (negsuc n) = grind (arith, nat_tests)
+
     at_64 : Extends 64
     at_64 false (pos n) = omega arith
     at_64 false (negsuc n) = omega arith
@@ -98,16 +107,19 @@ wrapped_fits bits w = by_width Fits at_8 at_16 at_32 at_64 bits w
     at_8 false (negsuc n) = grind (arith, nat_tests)
     at_8 true (pos n) = grind (arith, nat_tests)
     at_8 true (negsuc n) = grind (arith, nat_tests)
+
     at_16 : Fits 16
     at_16 false (pos n) = grind (arith, nat_tests)
     at_16 false (negsuc n) = grind (arith, nat_tests)
     at_16 true (pos n) = grind (arith, nat_tests)
     at_16 true (negsuc n) = grind (arith, nat_tests)
+
     at_32 : Fits 32
     at_32 false (pos n) = grind (arith, nat_tests)
     at_32 false (negsuc n) = grind (arith, nat_tests)
     at_32 true (pos n) = grind (arith, nat_tests)
     at_32 true (negsuc n) = grind (arith, nat_tests)
+
     at_64 : Fits 64
     at_64 false (pos n) = grind (arith, nat_tests)
     at_64 false (negsuc n) = grind (arith, nat_tests)
