@@ -6,7 +6,10 @@ mod known;
 mod limits;
 mod missing;
 mod names;
+mod numbered_expr;
+mod numbered_stmt;
 mod numbering;
+mod parts;
 mod rule;
 
 pub use rule::{JoinFault, LinkFault, LinkRule};
