@@ -1,1 +1,4 @@
 pub mod Found
+pub mod Operands
+pub mod Pointers
+pub mod Views
