@@ -8,3 +8,4 @@ pub mod Constants
 pub mod Branching
 pub mod Testing
 pub mod Deciding
+pub mod Converting
