@@ -5,4 +5,7 @@ pub mod Standing
 pub mod Evaluating
 pub mod Numbers
 pub mod Constants
+pub mod Branching
+pub mod Testing
 pub mod Deciding
+pub mod Converting

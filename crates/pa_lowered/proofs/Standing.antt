@@ -6,7 +6,7 @@ use Rattle.pa_ctype.specs.Values.{Place, CValue}
 use Rattle.pa_lir.specs.Values.{FlatValue}
 use Rattle.pa_lir.specs.Meaning.{temp_in}
 use Rattle.pa_lower.specs.Temporaries.{Room, next_room}
-use Rattle.pa_lowered.specs.Objects.{Map, Grows, Stands}
+use Rattle.pa_lowered.specs.Objects.{Map, Grows, IsPlace, Stands}
 use Rattle.pa_lowered.specs.Calls.{Temps}
 use Rattle.pa_lowered.specs.Simulates.{IsIn, IsRoom, Keeps, HasSame}
 use Rattle.pa_lowered.proofs.Containing.{temp_other}
@@ -18,9 +18,12 @@ abbrev pub IsVoid : TypeTree → Type 0
 IsVoid (Of constant Void) = Unit {0}
 IsVoid of = ⊥
 
+pub place_grown : (m k : Map) (place : Place) (u : FlatValue) → Grows m k → IsPlace m place u → IsPlace k place u
+place_grown m k place u g h = record { number = h.number; within = h.within; owner = h.owner; first = h.first; lies = g h.number h.within h.lies; is = h.is }
+
 pub stands_grown : (m k : Map) (of : TypeTree) (v : CValue) (u : FlatValue) → Grows m k → Stands m of v u → Stands k of v u
 stands_grown m k of (value.Number z) u g h = h
-stands_grown m k of (value.At place) u g h = (h.0, h.1, h.2, g h.0 h.1 h.3, h.4)
+stands_grown m k of (value.At place) u g h = place_grown m k place u g h
 stands_grown m k of (value.Code name) u g h = h
 stands_grown m k of value.Null u g h = h
 
@@ -81,8 +84,7 @@ pub same_later : (m k : Map) (same : Option Place) (r : Room) (a b : Temps) → 
 same_later m k None r a b room g kept h = tt
 same_later m k (Some place) r a b room g kept h =
     let apart = room.same h.0 h.2 in
-    let at = h.4 in
-    (h.0, h.1, h.2, kept h.0 apart.0 apart.1 apart.2 ∙ h.3, (at.0, at.1, at.2, g at.0 at.1 at.3, at.4))
+    (h.0, h.1, h.2, kept h.0 apart.0 apart.1 apart.2 ∙ h.3, place_grown m k place h.1 g h.4)
 
 pub same_next : (m : Map) (same : Option Place) (r : Room) (a : Temps) → HasSame m same r a → HasSame m same (next_room r) a
 same_next m None r a h = tt

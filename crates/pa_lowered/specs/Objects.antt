@@ -27,9 +27,14 @@ IsOf (Of constant (Integer bits signed)) z = IsTrue (is_width bits && is_in_rang
 IsOf (Of constant Boolean) z = IsTrue (is_in_range 1 false z)
 IsOf _ z = ⊥
 
--- the place in the object that the place's own lies in
-abbrev pub IsPlace : Map → Place → FlatValue → Type 0
-IsPlace m place u = (o : ℕ) × (p : ℕ) × (place.owner ≡ Local o) × (m o ≡ Some p) × (u ≡ flat.At p place.offset)
+-- The first byte of a local, in the object that the local lies in: a program of integers has no other places.
+pub record IsPlace (m : Map) (place : Place) (u : FlatValue) : Type 0 where
+  pub number : ℕ
+  pub within : ℕ
+  pub owner : place.owner ≡ Local number
+  pub first : place.offset ≡ 0
+  pub lies : m number ≡ Some within
+  pub is : u ≡ flat.At within 0
 
 -- A number stands as its 64 bits in two's complement, null as 0, a function under the schema of plain pointers.
 abbrev pub Stands : Map → TypeTree → CValue → FlatValue → Type 0
