@@ -26,7 +26,7 @@ use Rattle.pa_lir.specs.declared.function.LirLocal.{LirLocal}
 use Rattle.pa_lir.specs.declared.function.LirFn.{LirFn}
 use Rattle.pa_lir.specs.Parts.{rounded}
 use Rattle.pa_lir.specs.Values.{FlatValue, Objects}
-use Rattle.pa_lir.specs.Meaning.{Open, Coming, born, temp_in, putchar, getchar}
+use Rattle.pa_lir.specs.Meaning.{Open, Coming, Flat, born, temp_in, putchar, getchar}
 use Rattle.pa_frame.specs.Frames.{place_of_temp, size_of_frame}
 use Rattle.pa_frame.proofs.Places.{bytes_within}
 use Rattle.pa_select.specs.Accesses.{moved_by}
@@ -35,6 +35,10 @@ use Rattle.pa_select.proofs.Costs.{length-moved_by}
 use Rattle.pa_selected.specs.Values.{Addresses, Living, HasObjects}
 use Rattle.pa_selected.specs.Worlds.{World, IsOff, IsPlaced, Names, HasCodeAndStack, linked_body}
 use Rattle.pa_selected.specs.Calls.{IsRunning, HasFrameAt, HasArguments, HasCallFrames}
+use Rattle.pa_ctype.specs.Traces.{Enter}
+use Rattle.pa_object.proofs.Steps.{pacibsp_step}
+use Rattle.pa_selected.specs.Whole.{KeepsShown}
+use Rattle.pa_selected.proofs.Showing.{shows_entry}
 use Rattle.pa_selected.proofs.Straight.{runs_on, code_stays, allowed_stays}
 use Rattle.pa_selected.proofs.Keeping.{frames_end, placed_later, frame_at}
 use Rattle.pa_selected.proofs.Entering.{Opened, opening, opens}
@@ -54,6 +58,7 @@ pub record Enters (w : World) (addresses : Addresses) (objects locals : Objects)
   pub more : Addresses
   pub leads : LeadsLogging w 1 12 m later (record { when = Step m.count; event = event.Sign IB m.sp (register 30 m) (sign w.pac IB m.sp (register 30 m)) } ∷ [])
   pub ready : Ready w (addresses ++ more) (objects ++ locals) (entered_call f (length objects) into) os later
+  pub shows : (before now : Flat) → now.trace ≡ Enter f.name ∷ before.trace → KeepsShown w before now m leads.number
 
 few_parameters : (f : LirFn) (w : World) (m : Machine) → IsPlaced w m.memory f → AreParameters w.pac f [] f.parameters 0 f.locals
 few_parameters f w m placed =
@@ -241,6 +246,10 @@ module _ (w : World) (addresses : Addresses) (objects : Objects) (os : List Open
             output = stored.goes.output ∙ opened.output;
             log = stored.goes.log ∙ opened.log;
           };
+          shows = λ before now trace.
+              let pc = made.coming.pc in
+              shows_entry w before now m later number runs code.0 _ made.running.going (pacibsp_step w.pac m (omega (arith, room)) (register 30 m) code.0 refl) refl (omega arith) [] (λ trail log. refl)
+              m.sp (register 30 m) (sign w.pac IB m.sp (register 30 m)) (stored.goes.log ∙ opened.log) f.name (pc ∙ (ap w.entry (sym same_name) ∙ sym placed.first)) trace;
           ready = record {
             running = runs_on w.pac number m later made.running runs stored.goes.ended;
             placed = placed_later w number m later made.running runs putchar_same getchar_same made.placed;

@@ -1,10 +1,15 @@
 -- A call of a function of the runtime: through its stub, in it, and back behind the call.
-use Rattle.std.proofs.Common.{◌≡◌, ℕ, zero, suc, ◌+◌, ◌-◌, ◌%◌, ◌^◌, ◌≤◌, ◌<◌, List, [], ◌∷◌, ◌++◌, length, get_or, set, Option, Some, None, refl, sym, ap, subst, ◌∙◌, arith, length-set, get_or-set_same, get_or-set_other}
+use Rattle.std.proofs.Common.{◌≡◌, ℕ, suc, ◌+◌, ◌-◌, ◌%◌, ◌^◌, ◌≤◌, ◌<◌, true, List, [], ◌∷◌, ◌++◌, length, get_or, set, None, refl, sym, ap, subst, ◌∙◌, arith, length-set, get_or-set_same, get_or-set_other}
 use Rattle.pa_pac.specs.declared.key.Key.TheVariants.{IA, IB}
 use Rattle.pa_pac.specs.declared.event.Way.TheVariants as way
 use Rattle.pa_pac.specs.declared.event.Event.TheVariants as event
 use Rattle.pa_pac.specs.declared.event.When.TheVariants.{Step}
-use Rattle.pa_pac.specs.Log.{Log, is_known}
+use Rattle.std.specs.Prelude.{◌==◌}
+use Rattle.std.specs.List.{list_any}
+use Rattle.std.proofs.lemmas.Bool.{eq-eqb, or_right}
+use Rattle.pa_ctype.specs.Traces.{Enter}
+use Rattle.pa_lir.specs.Meaning.{Flat}
+use Rattle.pa_pac.specs.Log.{is_known}
 use Rattle.pa_pac.specs.Signing as signing
 use Rattle.pa_pac.specs.Signing.{canonical, sign, auth}
 use Rattle.pa_pac.proofs.Laws.{auth-sign}
@@ -16,24 +21,23 @@ use Rattle.pa_object.specs.Machine.{Machine, register, next}
 use Rattle.pa_object.specs.Effects.{prints, reads, first_or_end, behind_first}
 use Rattle.pa_lir.specs.Meaning.{putchar, getchar}
 use Rattle.pa_object.specs.Placed.{Stands, HasCode}
-use Rattle.pa_object.specs.Run.{Watched, step, advance_by, watched, watched_once}
+use Rattle.pa_object.specs.Run.{Watched, step, advance_by}
 use Rattle.pa_object.specs.Stub.{stub}
 use Rattle.pa_object.proofs.Growth.{advance_by-add}
 use Rattle.pa_object.proofs.Steps.{add64_small, watching, pacibsp_step, retab_step}
 use Rattle.pa_object.proofs.StepsBranching.{svc_print_step, svc_read_step}
+use Rattle.pa_object.proofs.Shapes.{shape-import, shape-jump}
+use Rattle.pa_object.proofs.StepsRun.{shape-return}
 use Rattle.pa_object.proofs.Stub.{behind_stub, stub_jumps}
 use Rattle.pa_selected.specs.Worlds.{World, IsImported, IsCodeAddress}
 use Rattle.pa_selected.specs.Calls.{IsRunning}
+use Rattle.pa_selected.specs.Runs.{import_slots}
+use Rattle.pa_selected.specs.Whole.{KeepsShown}
 use Rattle.pa_selected.proofs.Straight.{one}
-
--- a run that is watched is the run
-watched_machine : (code : signing.Code) (n : ℕ) (w : Watched) → (watched code [] n w).machine ≡ advance_by code [] n w.machine
-unfolding watched advance_by
-watched_machine code zero w = refl
-watched_machine code (suc n) w = watched_machine code n (watched_once code [] w)
+use Rattle.pa_selected.proofs.Showing.{watched_machine, keeps_then, shows_nothing, shows_entry}
 
 -- A function of the runtime has run: the next instruction is where its call goes back to, and x0 has what it gives.
-pub record Answered (w : World) (m : Machine) (byte : ℕ) (unread printed : List ℕ) : Type 0 where
+pub record Answered (w : World) (name : List ℕ) (m : Machine) (byte : ℕ) (unread printed : List ℕ) : Type 0 where
   pub later : Machine
   pub runs : advance_by w.pac [] 7 m ≡ later
   pub pc : later.pc ≡ register 30 m
@@ -44,11 +48,10 @@ pub record Answered (w : World) (m : Machine) (byte : ℕ) (unread printed : Lis
   pub input : later.input ≡ unread
   pub output : later.output ≡ printed
   pub ended : later.ended ≡ None
-  pub entries : Log
-  pub log : later.log ≡ entries ++ m.log
+  pub shows : (before now : Flat) → now.trace ≡ Enter name ∷ before.trace → KeepsShown w before now m 7
 
 module _ (w : World) (name : List ℕ) (number : ℕ) (m : Machine) (running : IsRunning m) (imported : IsImported w m.memory name number) (pc : m.pc ≡ w.entry name) (low : w.entry name + 16 < 2 ^ 47) (back : canonical (register 30 m) ≡ register 30 m)
-    (byte : ℕ) (input output : List ℕ)
+    (is_slot : list_any (λ slot. slot == w.slot name) (import_slots w) ≡ true) (byte : ℕ) (input output : List ℕ)
     (answers : (k : Machine) → Stands k.memory k.pc (i.Exception Svc number) → k.input ≡ m.input → k.output ≡ m.output → register 0 k ≡ register 0 m → step w.pac k ≡ next (record k { registers = set k.registers 0 byte; input = input; output = output })) where
   abbrev behind : Machine
   behind = behind_stub w.pac (w.slot name) (w.first name) m
@@ -112,11 +115,35 @@ module _ (w : World) (name : List ℕ) (number : ℕ) (m : Machine) (running : I
   x0_given : register 0 left ≡ byte
   x0_given = get_or-set_same signed.registers 0 byte 0 (omega (arith, length-set behind.registers 30 link, wide))
 
-  pub import_answers : Answered w m byte input output
+  -- ---- what is shown
+
+  -- the jump shows nothing, since its pointer is that of an import
+  jump_shows : (before : Flat) → KeepsShown w before before m 4
+  jump_shows before =
+      shows_nothing w before before m behind 4 reaches
+      (record { when = Step (m.count + 3); event = event.Land way.Jump (w.first name) } ∷ record { when = Step (m.count + 3); event = event.Take IA (w.slot name) (w.first name) (is_known m.log IA (w.slot name) (w.first name)) } ∷ [])
+      (λ trail log. shape-jump (import_slots w) trail (Step (m.count + 3)) (record { when = Step (m.count + 3); event = event.Take IA (w.slot name) (w.first name) (is_known m.log IA (w.slot name) (w.first name)) } ∷ log) (w.first name)
+      ∙ shape-import (import_slots w) trail (Step (m.count + 3)) log (w.slot name) (w.first name) (is_known m.log IA (w.slot name) (w.first name)) is_slot)
+      (ap (λ n. record { when = Step n; event = event.Land way.Jump (w.first name) } ∷ record { when = Step n; event = event.Take IA (w.slot name) (w.first name) (is_known m.log IA (w.slot name) (w.first name)) } ∷ m.log) (omega arith)) refl
+
+  answered_runs : advance_by w.pac [] 3 behind ≡ left
+  answered_runs =
+      advance_by-add w.pac [] 1 2 behind ∙ (ap (advance_by w.pac [] 2) (one w.pac behind signed running.going signs)
+      ∙ (advance_by-add w.pac [] 1 1 signed ∙ (ap (advance_by w.pac [] 1) (one w.pac signed answered running.going gives) ∙ one w.pac answered left running.going returns)))
+
+  -- the function is entered
+  function_shows : (before now : Flat) → now.trace ≡ Enter name ∷ before.trace → KeepsShown w before now behind 3
+  function_shows before now trace =
+      let known = is_known answered.log IB m.sp (register 30 m) in
+      shows_entry w before now behind left 3 answered_runs imported.code.0 signed running.going signs refl (omega arith)
+      (record { when = Step answered.count; event = event.Land way.Return (register 30 m) } ∷ record { when = Step answered.count; event = event.Take IB m.sp (register 30 m) known } ∷ [])
+      (λ trail log. shape-return (import_slots w) trail (Step answered.count) (Step answered.count) m.sp (register 30 m) (register 30 m) known log)
+      m.sp (register 30 m) link refl name refl trace
+
+  pub import_answers : Answered w name m byte input output
   import_answers = record {
     later = left;
-    runs = advance_by-add w.pac [] 4 3 m ∙ (ap (advance_by w.pac [] 3) reaches ∙ (advance_by-add w.pac [] 1 2 behind ∙ (ap (advance_by w.pac [] 2) (one w.pac behind signed running.going signs)
-        ∙ (advance_by-add w.pac [] 1 1 signed ∙ (ap (advance_by w.pac [] 1) (one w.pac signed answered running.going gives) ∙ one w.pac answered left running.going returns)))));
+    runs = advance_by-add w.pac [] 4 3 m ∙ (ap (advance_by w.pac [] 3) reaches ∙ answered_runs);
     pc = refl;
     count = omega arith;
     sp = refl;
@@ -125,19 +152,21 @@ module _ (w : World) (name : List ℕ) (number : ℕ) (m : Machine) (running : I
     input = refl;
     output = refl;
     ended = running.going;
-    entries = record { when = Step answered.count; event = event.Land way.Return (register 30 m) } ∷ record { when = Step answered.count; event = event.Take IB m.sp (register 30 m) (is_known answered.log IB m.sp (register 30 m)) }
-        ∷ record { when = Step behind.count; event = event.Sign IB m.sp (register 30 m) link } ∷ record { when = Step (m.count + 3); event = event.Land way.Jump (w.first name) }
-        ∷ record { when = Step (m.count + 3); event = event.Take IA (w.slot name) (w.first name) (is_known m.log IA (w.slot name) (w.first name)) } ∷ [];
-    log = ap (λ n. record { when = Step answered.count; event = event.Land way.Return (register 30 m) } ∷ record { when = Step answered.count; event = event.Take IB m.sp (register 30 m) (is_known answered.log IB m.sp (register 30 m)) }
-        ∷ record { when = Step behind.count; event = event.Sign IB m.sp (register 30 m) link } ∷ record { when = Step n; event = event.Land way.Jump (w.first name) }
-        ∷ record { when = Step n; event = event.Take IA (w.slot name) (w.first name) (is_known m.log IA (w.slot name) (w.first name)) } ∷ m.log) (omega arith);
+    shows = λ before now trace. keeps_then w before before now m behind 4 3 reaches (jump_shows before) (function_shows before now trace);
   }
+
+-- both slots are those of imports
+first_is : (a b : ℕ) → list_any (λ slot. slot == a) (a ∷ b ∷ []) ≡ true
+first_is a b = rw (eq-eqb a a refl) refl
+
+second_is : (a b : ℕ) → list_any (λ slot. slot == b) (a ∷ b ∷ []) ≡ true
+second_is a b = or_right (a == b) _ (rw (eq-eqb b b refl) refl)
 
 -- The low byte of x0 is printed, and x0 has it.
 pub prints_answer : (w : World) (m : Machine) → IsRunning m → IsImported w m.memory putchar 1 → m.pc ≡ w.entry putchar → IsCodeAddress (w.entry putchar) → canonical (register 30 m) ≡ register 30 m
-    → Answered w m (register 0 m % 256) m.input (m.output ++ register 0 m % 256 ∷ [])
+    → Answered w putchar m (register 0 m % 256) m.input (m.output ++ register 0 m % 256 ∷ [])
 prints_answer w m running imported pc address back =
-    import_answers w putchar 1 m running imported pc address.low back (register 0 m % 256) m.input (m.output ++ register 0 m % 256 ∷ [])
+    import_answers w putchar 1 m running imported pc address.low back (first_is (w.slot putchar) (w.slot getchar)) (register 0 m % 256) m.input (m.output ++ register 0 m % 256 ∷ [])
     (λ k c input output x0. svc_print_step w.pac k c ∙ same k input output x0)
   where
     same : (k : Machine) → k.input ≡ m.input → k.output ≡ m.output → register 0 k ≡ register 0 m → next (prints k) ≡ next (record k { registers = set k.registers 0 (register 0 m % 256); input = m.input; output = m.output ++ register 0 m % 256 ∷ [] })
@@ -148,9 +177,9 @@ prints_answer w m running imported pc address back =
 
 -- The next byte is read into x0, or -1.
 pub reads_answer : (w : World) (m : Machine) → IsRunning m → IsImported w m.memory getchar 2 → m.pc ≡ w.entry getchar → IsCodeAddress (w.entry getchar) → canonical (register 30 m) ≡ register 30 m
-    → Answered w m (first_or_end m.input) (behind_first m.input) m.output
+    → Answered w getchar m (first_or_end m.input) (behind_first m.input) m.output
 reads_answer w m running imported pc address back =
-    import_answers w getchar 2 m running imported pc address.low back (first_or_end m.input) (behind_first m.input) m.output
+    import_answers w getchar 2 m running imported pc address.low back (second_is (w.slot putchar) (w.slot getchar)) (first_or_end m.input) (behind_first m.input) m.output
     (λ k c input output x0. svc_read_step w.pac k c ∙ same k input output)
   where
     same : (k : Machine) → k.input ≡ m.input → k.output ≡ m.output → next (reads k) ≡ next (record k { registers = set k.registers 0 (first_or_end m.input); input = behind_first m.input; output = m.output })

@@ -13,6 +13,7 @@ mod Places
 mod Comparing
 pub mod Giving
 mod Contents
+mod Showing
 pub mod Operations
 pub mod Leaving
 pub mod Calling

@@ -19,6 +19,7 @@ use Rattle.pa_object.specs.Placed.{HasCode}
 use Rattle.pa_object.specs.Run.{advance_by}
 use Rattle.pa_object.proofs.Placed.{HasCode-append}
 use Rattle.pa_object.proofs.Growth.{advance_by-add}
+use Rattle.pa_object.proofs.StepsRun.{shape-return}
 use Rattle.pa_lir.specs.declared.op.Op.TheVariants as op
 use Rattle.pa_lir.specs.Parts.{held, above}
 use Rattle.pa_lir.specs.Values.{FlatValue, Byte, Object, Objects}
@@ -29,7 +30,7 @@ use Rattle.pa_select.proofs.Costs.{length-access}
 use Rattle.pa_selected.specs.Values.{Addresses, StandsFor, HasBytes, HasObjects}
 use Rattle.pa_selected.specs.Worlds.{World, IsPlaced, Names, call_of, place_of_op}
 use Rattle.pa_selected.specs.Calls.{IsOpen, IsWaiting, GoesBack, HasCallFrame, HasCallFrames}
-use Rattle.pa_selected.specs.Runs.{IsOffSlots}
+use Rattle.pa_selected.specs.Runs.{IsOffSlots, import_slots}
 use Rattle.pa_selected.proofs.Straight.{goes_more, untouched, runs_on}
 use Rattle.pa_selected.proofs.Slots.{scratch, not_scratch, stores_temp, stored_follows}
 use Rattle.pa_selected.proofs.Storing.{Gives, slot}
@@ -37,6 +38,7 @@ use Rattle.pa_selected.proofs.Steps.{code_of_op, next_place, op_below}
 use Rattle.pa_selected.proofs.Keeping.{placed_later}
 use Rattle.pa_selected.proofs.Stores.{frames_at}
 use Rattle.pa_selected.proofs.Leaving.{Left, none_returns, some_returns}
+use Rattle.pa_selected.proofs.Showing.{ShowsNothing}
 use Rattle.pa_selected.proofs.Giving.{Ready, HasState, Leads, Moves, state_of, ready_at, newest_call, newest_placed, open_call, function_placed, gives_state}
 
 -- ---- locals die
@@ -291,6 +293,7 @@ pub record WentBack (w : World) (addresses : Addresses) (objects : Objects) (o :
   pub later : Machine
   pub entries : Log
   pub leads : LeadsLogging w 1 6 m later entries
+  pub quiet : ShowsNothing w entries
   pub back : ℕ
   pub goes_back : GoesBack w os o.into back
   pub pc : later.pc ≡ back
@@ -349,6 +352,7 @@ module _ (w : World) (addresses : Addresses) (objects : Objects) (o : Open) (os 
       output = left.output;
       log = left.log;
     };
+    quiet = λ trail log. shape-return (import_slots w) trail left.landed left.taken (m.sp + size_of_frame o.function) newest_frame.back newest_frame.back left.known log;
     back = newest_frame.back;
     goes_back = newest_frame.caller;
     pc = left.pc;

@@ -34,10 +34,10 @@ some_value x y e = ap (λ o. unwrap_or o x) e
 -- What the machine does for an act, in so many instructions at least and at most. A call leaves 14 of them for the beginning of
 -- its function and for its result.
 abbrev pub DoesAct : World → Addresses → Objects → Open → List Open → Machine → (least most : ℕ) → Act → Type 0
-DoesAct w addresses objects o os m least most (Gives to value seen) = Moves w addresses objects (with_temp to value o) os m least most
+DoesAct w addresses objects o os m least most (Gives to value seen) = Moves w addresses objects (with_temp to value o) os m least most × (seen ≡ [])
 DoesAct w addresses objects o os m least most (Changes object to) = Moves w addresses (set objects object to) (moved o (suc o.at)) os m least most
 DoesAct w addresses objects o os m least most (Goes at) = Moves w addresses objects (moved o at) os m least most
-DoesAct w addresses objects o os m least most (Calls coming seen) = Makes w addresses objects (o ∷ os) coming m least (most - 14) × (14 ≤ most)
+DoesAct w addresses objects o os m least most (Calls coming seen) = Makes w addresses objects (o ∷ os) coming m least (most - 14) × (14 ≤ most) × (seen ≡ [])
 DoesAct w addresses objects o os m least most (Returns value) = WentBack w addresses objects o os value m × (least ≤ 1) × (6 ≤ most)
 
 count_values : (o : Open) (ts : List ℕ) (values : List FlatValue) → temps_of o ts ≡ Some values → length values ≡ length ts
@@ -56,7 +56,7 @@ module _ (w : World) (addresses : Addresses) (objects : Objects) (o : Open) (os 
 
   gives_done : (operation : Op) (act : Act) (to : ℕ) (value : Option FlatValue) → ((v : FlatValue) → value ≡ Some v → Moves w addresses objects (with_temp to v o) os m (counted operation) (cost operation)) → gives to value ≡ Some act → Acts operation act
   gives_done operation act to None h e = cc
-  gives_done operation act to (Some v) h e = subst (Acts operation) (some_act (Gives to v []) act e) (h v refl)
+  gives_done operation act to (Some v) h e = subst (Acts operation) (some_act (Gives to v []) act e) (h v refl, refl)
 
   bin_done : (to : ℕ) (operator : BinOp) (left right : ℕ) (act : Act) → slice_get o.function.ops o.at ≡ Some (op.Bin to operator left right) → on_two (λ u v. gives to (binary objects operator u v)) (temp o left) (temp o right) ≡ Some act → Acts (op.Bin to operator left right) act
   bin_done to operator left right act e means = go (temp o left) (temp o right) refl refl means
@@ -166,7 +166,7 @@ module _ (w : World) (addresses : Addresses) (objects : Objects) (o : Open) (os 
       go None p means = cc
       go (Some values) p means =
           subst (Acts (op.Call to name ts)) (some_act (Calls (record { name = name; arguments = values; into = to }) []) act means)
-          (call_makes w addresses objects o os m ready to name ts values e few (omega (arith, few, count_values o ts values p)) p, omega arith)
+          (call_makes w addresses objects o os m ready to name ts values e few (omega (arith, few, count_values o ts values p)) p, omega arith, refl)
 
   return_done : (from : Option ℕ) (act : Act) → slice_get o.function.ops o.at ≡ Some (op.Return from) → returns o from ≡ Some act → Acts (op.Return from) act
   return_done None act e means = subst (Acts (op.Return None)) (some_act (Returns None) act means) (returns_back w addresses objects o os m ready None None e refl, omega arith, omega arith)

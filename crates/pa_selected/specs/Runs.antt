@@ -64,8 +64,12 @@ pub record IsWithinCosts (begun : ℕ) (s : Flat) (m : Machine) : Type 0 where
 
 -- ---- what the run shows
 
+-- where the pointers to the runtime's functions lie
+abbrev pub import_slots : World → List ℕ
+import_slots w = w.slot putchar ∷ w.slot getchar ∷ []
+
 -- Functions alone are entered, and the shape of a run shows each by its first instruction.
 pub record Shows (w : World) (s : Flat) (v : Watched) : Type 0 where
   pub names : List (List ℕ)
   pub trace : s.trace ≡ map Enter names
-  pub shape : shape.shape (w.slot putchar ∷ w.slot getchar ∷ []) v.trail v.machine.log ≡ map (λ name. shape.Enter (w.first name)) names
+  pub shape : shape.shape (import_slots w) v.trail v.machine.log ≡ map (λ name. shape.Enter (w.first name)) names
