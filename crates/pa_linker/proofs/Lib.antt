@@ -1,1 +1,12 @@
+pub mod ByWord
+pub mod Clearing
+pub mod Few
+pub mod Fits
+pub mod Laying
+pub mod OnBool
+pub mod Room
+pub mod Small
+pub mod Tables
+pub mod Uses
+pub mod Words
 pub mod Worked

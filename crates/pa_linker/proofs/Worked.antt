@@ -13,8 +13,8 @@ use Rattle.pa_macho.specs.declared.header.Role.TheVariants.{Main}
 use Rattle.pa_macho.specs.Layout.{places_of}
 use Rattle.pa_fixups.specs.declared.kind.FixKind.TheVariants.{Rebase, AuthRebase, AuthBind}
 use Rattle.pa_image.specs.declared.image.Image.{Image}
-use Rattle.pa_linker.specs.Layout.{layout_of}
-use Rattle.pa_linker.specs.Linked.{image_of}
+use Rattle.pa_linker.specs.Layout.{layout_of, sections_of}
+use Rattle.pa_linker.specs.Linked.{cleared, image_of}
 
 abbrev pub variable : Global
 variable = record {
@@ -61,5 +61,5 @@ image = record {
 }
 
 pub worked : image_of (first ∷ second ∷ []) ≡ image
-unfolding image_of layout_of places_of decoded decoded_among decoded_by fields encoded parts.word
+unfolding image_of layout_of places_of decoded decoded_among decoded_by fields encoded parts.word sections_of cleared
 worked = refl

@@ -5,9 +5,11 @@ use Rattle.std.specs.Option.{option_to_list}
 use Rattle.std.specs.Str.{bytes_eq}
 use Rattle.pa_object.specs.declared.object.Object.{Object}
 use Rattle.pa_object.specs.declared.object.Ref.{Ref}
+use Rattle.pa_object.specs.declared.object.Global.{Global}
 use Rattle.pa_object.specs.declared.object.SlotValue.{SlotValue}
 use Rattle.pa_object.specs.declared.object.SlotValue.TheVariants.{Address, Signed}
-use Rattle.pa_object.specs.Linkable.{Text, globals_of, runtime}
+use Rattle.pa_object.specs.declared.object.Slot.{Slot}
+use Rattle.pa_object.specs.Linkable.{Text, runtime}
 
 -- ---- references by word
 
@@ -31,11 +33,20 @@ slot_name (Address name addend) = name
 slot_name (Signed name schema) = name
 
 -- the names that objects use: first the references by object and word, then the slots by object, global and offset
+abbrev pub ref_names : List Ref → List Text
+ref_names refs = map (λ ref. ref.name) refs
+
 abbrev pub used_by_refs : List Object → List Text
-used_by_refs objects = flat_map (λ o. map (λ ref. ref.name) (refs_of o)) objects
+used_by_refs objects = flat_map (λ o. ref_names (refs_of o)) objects
+
+abbrev pub slot_names : List Slot → List Text
+slot_names slots = map (λ slot. slot_name slot.value) slots
+
+abbrev pub slot_names_of : List Global → List Text
+slot_names_of globals = flat_map (λ g. slot_names g.slots) globals
 
 abbrev pub used_by_slots : List Object → List Text
-used_by_slots objects = flat_map (λ g. map (λ slot. slot_name slot.value) g.slots) (globals_of objects)
+used_by_slots objects = flat_map (λ o. slot_names_of o.globals) objects
 
 abbrev pub is_runtime : Text → Bool
 is_runtime name = list_any (bytes_eq name) runtime

@@ -1,5 +1,5 @@
 -- Where functions, globals, stubs and slots stand in the image of objects. Places count from the image's first byte.
-use Rattle.std.specs.Prelude.{ℕ, ◌+◌, ◌*◌, not, if◌then◌else◌, List, [], ◌∷◌, ◌++◌, length, map, filter, Option, Some, None}
+use Rattle.std.specs.Prelude.{ℕ, ◌+◌, ◌*◌, Bool, true, false, not, if◌then◌else◌, List, [], ◌∷◌, ◌++◌, length, map, filter, Option, Some, None}
 use Rattle.std.specs.Option.{option_map_or}
 use Rattle.std.specs.Str.{bytes_eq}
 use Rattle.pa_object.specs.declared.object.Object.{Object}
@@ -10,6 +10,7 @@ use Rattle.pa_macho.specs.declared.header.Role.TheVariants.{Main}
 use Rattle.pa_macho.specs.declared.header.Header.{Header}
 use Rattle.pa_macho.specs.declared.places.Places.{Places}
 use Rattle.pa_macho.specs.Layout.{front_size, places_of, up}
+use Rattle.pa_linker.specs.declared.layout.Sections.{Sections}
 use Rattle.pa_linker.specs.Imports.{imports_of, import_index}
 
 -- ---- code
@@ -36,52 +37,66 @@ marks_of objects = marks_from start_words objects
 
 -- ---- data
 
-abbrev pub literals_of : List Object → List Global
-literals_of objects = filter (λ g. g.constant) (globals_of objects)
+-- the string literals, or the other globals
+abbrev pub is_of : (constant : Bool) → Global → Bool
+is_of true global = global.constant
+is_of false global = not global.constant
 
-abbrev pub variables_of : List Object → List Global
-variables_of objects = filter (λ g. not g.constant) (globals_of objects)
+abbrev pub globals_that : (constant : Bool) → List Object → List Global
+globals_that constant objects = filter (is_of constant) (globals_of objects)
 
 -- a global behind this many bytes of its section
 pub record Laid : Type 0 where
   pub global : Global
   pub at : ℕ
 
-abbrev pub laid_at : Global → ℕ → Laid
-laid_at global at = record { global = global; at = at }
+-- at the next multiple of its alignment
+abbrev pub laid_behind : (end : ℕ) → Global → Laid
+laid_behind end global = record { global = global; at = up global.align end }
 
 abbrev pub end_of : Laid → ℕ
 end_of laid = laid.at + length laid.global.bytes
 
--- globals one behind another, each at the next multiple of its alignment
+-- globals one behind another, and where they end
 abbrev pub laid_from : (end : ℕ) → List Global → List Laid
 laid_from end [] = []
-laid_from end (global ∷ globals) =
-    let laid = laid_at global (up global.align end) in laid ∷ laid_from (end_of laid) globals
+laid_from end (global ∷ globals) = laid_behind end global ∷ laid_from (end_of (laid_behind end global)) globals
 
--- where they end
 abbrev pub laid_end : (end : ℕ) → List Global → ℕ
 laid_end end [] = end
-laid_end end (global ∷ globals) = laid_end (up global.align end + length global.bytes) globals
+laid_end end (global ∷ globals) = laid_end (end_of (laid_behind end global)) globals
 
-abbrev pub laid : List Global → List Laid
-laid globals = laid_from 0 globals
+abbrev pub literals_of : List Object → List Laid
+literals_of objects = laid_from 0 (globals_that true objects)
+
+abbrev pub variables_of : List Object → List Laid
+variables_of objects = laid_from 0 (globals_that false objects)
 
 -- ---- sections
 
--- the sizes of the sections alone; those of the parts of `__LINKEDIT` move none of them
-abbrev pub sections_of : List Object → Header
-sections_of objects = record {
+-- an image of so many words, imports, and bytes of `__const` and `__data`; no section moves with the parts of `__LINKEDIT`
+abbrev pub header_with : (words imports literals variables : ℕ) → Header
+header_with words imports literals variables = record {
   role = Main;
-  text = 4 * words_after start_words objects;
-  stubs = 16 * length (imports_of objects);
-  consts = laid_end 0 (literals_of objects);
-  got = 8 * length (imports_of objects);
-  cells = laid_end 0 (variables_of objects);
+  text = 4 * words;
+  stubs = 16 * imports;
+  consts = literals;
+  got = 8 * imports;
+  cells = variables;
   fixups = 0;
   symbols = 0;
   strings = 0;
 }
+
+abbrev pub begins : Places → Sections
+begins p = record { stubs = p.stubs; consts = p.consts; got = p.got; cells = p.cells }
+
+unfoldable pub sections_of : List Object → Sections
+sections_of objects = begins (places_of (header_with
+    (words_after start_words objects)
+    (length (imports_of objects))
+    (laid_end 0 (globals_that true objects))
+    (laid_end 0 (globals_that false objects))))
 
 -- ---- names
 
@@ -102,26 +117,28 @@ functions_from marks = map (λ m. symbol m.name (mark_place m)) marks
 abbrev pub globals_from : ℕ → List Laid → List Symbol
 globals_from section laid = map (λ l. symbol l.global.name (section + l.at)) laid
 
-abbrev pub symbols_with : Places → List Object → List Symbol
-symbols_with p objects =
-    functions_from (marks_of objects) ++ globals_from p.consts (laid (literals_of objects))
-    ++ globals_from p.cells (laid (variables_of objects))
+abbrev pub symbols_with : Sections → List Object → List Symbol
+symbols_with sections objects =
+    functions_from (marks_of objects) ++ (globals_from sections.consts (literals_of objects)
+    ++ globals_from sections.cells (variables_of objects))
 
 abbrev pub find : List Symbol → Text → Option ℕ
 find [] name = None
 find (s ∷ symbols) name = if bytes_eq name s.name then Some s.place else find symbols name
 
--- where the sections, the imports and the names of an image stand
+-- where the sections, functions and globals of an image stand, and which import has a name
 pub record Layout : Type 0 where
-  pub sections : Places
+  pub sections : Sections
   pub imports : List Text
-  pub symbols : List Symbol
+  pub index : Text → ℕ
+  pub find : Text → Option ℕ
 
 unfoldable pub layout_of : List Object → Layout
 layout_of objects = record {
-  sections = places_of (sections_of objects);
+  sections = sections_of objects;
   imports = imports_of objects;
-  symbols = symbols_with (places_of (sections_of objects)) objects;
+  index = import_index (imports_of objects);
+  find = find (symbols_with (sections_of objects) objects);
 }
 
 -- the stub and the slot of import i
@@ -133,4 +150,4 @@ slot_place l i = l.sections.got + 8 * i
 
 -- where a name's function or global stands, or the stub of the import of that name
 abbrev pub place_of : Layout → Text → ℕ
-place_of l name = option_map_or (λ place. place) (find l.symbols name) (stub_place l (import_index l.imports name))
+place_of l name = option_map_or (λ place. place) (l.find name) (stub_place l (l.index name))

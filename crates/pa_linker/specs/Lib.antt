@@ -1,3 +1,4 @@
 pub mod Imports
 pub mod Layout
 pub mod Linked
+pub mod Tables

@@ -1,5 +1,5 @@
 -- The image of objects (ld64: `__auth_stubs` and `__auth_got`; mach-o/fixup-chains.h, pointer format 1).
-use Rattle.std.specs.Prelude.{ℕ, ◌+◌, ◌-◌, ◌*◌, ℤ, pos, negsuc, true, List, [], ◌∷◌, ◌++◌, length, map, take, drop, replicate, codes, Option, Some, None}
+use Rattle.std.specs.Prelude.{ℕ, ◌+◌, ◌-◌, ◌*◌, ℤ, pos, negsuc, true, List, [], ◌∷◌, ◌++◌, length, map, replicate, codes, Option, Some, None}
 use Rattle.std.specs.Option.{option_map_or}
 use Rattle.std.specs.List.{flat_map}
 use Rattle.pa_pac.specs.declared.key.Key.TheVariants.{IA}
@@ -16,19 +16,19 @@ use Rattle.pa_object.specs.declared.object.Ref.{Ref}
 use Rattle.pa_object.specs.declared.object.SlotValue.{SlotValue}
 use Rattle.pa_object.specs.declared.object.SlotValue.TheVariants.{Address, Signed}
 use Rattle.pa_object.specs.declared.object.Slot.{Slot}
-use Rattle.pa_object.specs.declared.object.Global.{Global}
 use Rattle.pa_object.specs.Linkable.{Text}
 use Rattle.pa_object.specs.Filled.{words_between, filled_word}
 use Rattle.pa_object.specs.Stub.{stub}
 use Rattle.pa_macho.specs.declared.header.Role.TheVariants.{Main}
-use Rattle.pa_macho.specs.Layout.{base_of, front_size, up}
+use Rattle.pa_macho.specs.Layout.{base_of, front_size}
 use Rattle.pa_fixups.specs.declared.kind.Sig.{Sig}
 use Rattle.pa_fixups.specs.declared.kind.FixKind.{FixKind}
 use Rattle.pa_fixups.specs.declared.kind.FixKind.TheVariants.{Rebase, AuthRebase, AuthBind}
 use Rattle.pa_fixups.specs.declared.kind.Fix.{Fix}
+use Rattle.pa_fixups.specs.Chain.{put_at}
 use Rattle.pa_image.specs.declared.image.Image.{Image}
-use Rattle.pa_linker.specs.Imports.{ref_at, import_index}
-use Rattle.pa_linker.specs.Layout.{start_words, marks_of, literals_of, variables_of, Laid, laid, Layout, layout_of, find, stub_place, slot_place, place_of}
+use Rattle.pa_linker.specs.Imports.{ref_at}
+use Rattle.pa_linker.specs.Layout.{start_words, marks_of, literals_of, variables_of, Laid, end_of, Layout, layout_of, stub_place, slot_place, place_of}
 
 -- ---- code
 
@@ -38,8 +38,8 @@ start main = Branch Bl (words_between front_size main) ∷ Exception Svc 3 ∷ E
 
 -- where a reference leads
 abbrev pub target : Layout → RefKind → Text → ℕ
-target l refers.SlotPage name = slot_place l (import_index l.imports name)
-target l refers.SlotLow name = slot_place l (import_index l.imports name)
+target l refers.SlotPage name = slot_place l (l.index name)
+target l refers.SlotLow name = slot_place l (l.index name)
 target l kind name = place_of l name
 
 -- a word at a place, with the field of its reference filled
@@ -71,17 +71,15 @@ stubs_from l i (name ∷ imports) = map encoded (stub (stub_place l i) (slot_pla
 -- ---- data
 
 -- the bytes with zeros for the slots
-abbrev pub cleared : List Slot → List ℕ → List ℕ
+unfoldable pub cleared : List Slot → List ℕ → List ℕ
 cleared [] bytes = bytes
-cleared (slot ∷ slots) bytes =
-    cleared slots (take slot.offset bytes ++ (replicate 8 0 ++ drop (slot.offset + 8) bytes))
+cleared (slot ∷ slots) bytes = cleared slots (put_at slot.offset (replicate 8 0) bytes)
 
--- a section's bytes from the end of a global on: zeros up to each next one
-abbrev pub bytes_from : (end : ℕ) → List Global → List ℕ
+-- a section's bytes from the end of a global on, with zeros up to each next one
+abbrev pub bytes_from : (end : ℕ) → List Laid → List ℕ
 bytes_from end [] = []
-bytes_from end (global ∷ globals) =
-    replicate (up global.align end - end) 0
-    ++ (cleared global.slots global.bytes ++ bytes_from (up global.align end + length global.bytes) globals)
+bytes_from end (laid ∷ behind) =
+    replicate (laid.at - end) 0 ++ (cleared laid.global.slots laid.global.bytes ++ bytes_from (end_of laid) behind)
 
 -- ---- slots
 
@@ -95,7 +93,7 @@ sig_of schema = record { key = schema.key; addr = schema.addr; disc = schema.dis
 
 -- a function of the image by its offset, or else an import
 abbrev pub signed : Layout → Text → Sig → FixKind
-signed l name sig = option_map_or (λ place. AuthRebase place sig) (find l.symbols name) (AuthBind (import_index l.imports name) sig)
+signed l name sig = option_map_or (λ place. AuthRebase place sig) (l.find name) (AuthBind (l.index name) sig)
 
 abbrev pub slot_kind : Layout → SlotValue → FixKind
 slot_kind l (Address name addend) = Rebase (moved (base_of Main + place_of l name) addend) 0
@@ -108,13 +106,11 @@ import_fixes i (name ∷ imports) =
     record { at = 8 * i; kind = AuthBind i (record { key = IA; addr = true; disc = 0 }) } ∷ import_fixes (i + 1) imports
 
 -- the slots of globals, by their places in `__DATA`
+abbrev pub slots_behind : Layout → (place : ℕ) → List Slot → List Fix
+slots_behind l place slots = map (λ slot. record { at = place + slot.offset; kind = slot_kind l slot.value }) slots
+
 abbrev pub global_fixes : Layout → Laid → List Fix
-global_fixes l laid =
-    map (λ slot. record {
-      at = l.sections.cells - l.sections.got + laid.at + slot.offset;
-      kind = slot_kind l slot.value;
-    })
-    laid.global.slots
+global_fixes l laid = slots_behind l (l.sections.cells - l.sections.got + laid.at) laid.global.slots
 
 abbrev pub fixes_with : Layout → List Laid → List Fix
 fixes_with l laid = import_fixes 0 l.imports ++ flat_map (global_fixes l) laid
@@ -131,7 +127,7 @@ image_with l objects = record {
   cells = bytes_from 0 (variables_of objects);
   marks = marks_of objects;
   imports = l.imports;
-  fixes = fixes_with l (laid (variables_of objects));
+  fixes = fixes_with l (variables_of objects);
 }
 
 unfoldable pub image_of : List Object → Image
