@@ -1,5 +1,5 @@
 -- A number in 64 bits of two's complement.
-use Rattle.std.proofs.Common.{◌≡◌, ℤ, pos, negsuc, ◌^◌, arith, refl}
+use Rattle.std.proofs.Common.{◌≡◌, ℤ, pos, negsuc, arith}
 use Rattle.std.specs.Prelude.{FitsSigned}
 use Rattle.std.specs.Int.{w64, cast_unsigned}
 use Rattle.pa_num.specs.Arithmetic.{unsigned64, wrap}
