@@ -32,3 +32,4 @@ mod States
 pub mod Acting
 pub mod Arriving
 pub mod Whole
+pub mod Starting

@@ -15,7 +15,7 @@ use Rattle.pa_selected.proofs.Arriving.{arrival_does}
 use Rattle.pa_selected.proofs.Showing.{keeps_then}
 
 -- what a run does, one does that comes before it
-prepended : (w : World) (started n : ℕ) (m middle : Machine) (first before s : Flat) (e : Option FlatEnd) → advance_by w.pac [] n m ≡ middle → KeepsShown w first before m n → DoesAs w started middle before s e → DoesAs w started m first s e
+pub prepended : (w : World) (started n : ℕ) (m middle : Machine) (first before s : Flat) (e : Option FlatEnd) → advance_by w.pac [] n m ≡ middle → KeepsShown w first before m n → DoesAs w started middle before s e → DoesAs w started m first s e
 prepended w started n m middle first before s None runs shows h = record {
   later = h.later;
   number = n + h.number;

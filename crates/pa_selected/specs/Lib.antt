@@ -3,3 +3,4 @@ pub mod Values
 pub mod Calls
 pub mod Runs
 pub mod Whole
+pub mod Start
