@@ -9,3 +9,4 @@ pub mod Branching
 pub mod Testing
 pub mod Deciding
 pub mod Converting
+pub mod Operators
