@@ -10,3 +10,4 @@ pub mod Testing
 pub mod Deciding
 pub mod Converting
 pub mod Operators
+pub mod Types
