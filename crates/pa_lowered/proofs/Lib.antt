@@ -11,3 +11,4 @@ pub mod Deciding
 pub mod Converting
 pub mod Operators
 pub mod Types
+pub mod Loading
