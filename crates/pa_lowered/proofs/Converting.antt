@@ -1,12 +1,10 @@
--- Conversions (C11 6.3.1.2, 6.3.1.3) and operators on one number (6.5.3.3).
+-- Conversions (C11 6.3.1.2, 6.3.1.3).
 use Rattle.std.proofs.Common.{◌≡◌, ℕ, zero, suc, ◌+◌, ◌%◌, ◌^◌, ◌-◌, ◌<◌, ◌≤◌, ℤ, pos, negsuc, neg_ℤ, List, [], ◌∷◌, ◌++◌, length, refl, sym, ap, subst, ◌∙◌, arith, Option, Some, None, length-append, Bool, true, false, IsTrue}
 use Rattle.std.specs.Prelude.{not, if◌then◌else◌, option_map, option_and_then}
-use Rattle.pa_num.specs.Arithmetic.{sub64, not64, wrap}
 use Rattle.pa_ctype.specs.Types.{TypeTree, Of, Void, Boolean, Integer, Pointer, Array, Struct, Function}
 use Rattle.pa_ctype.specs.Values as value
 use Rattle.pa_ctype.specs.Values.{CValue}
-use Rattle.pa_typed.specs.Typed.{TypedExpr, Convert, Unary}
-use Rattle.pa_typed.specs.declared.expr.UnaryOperation.TheVariants.{Minus, Complement, Not}
+use Rattle.pa_typed.specs.Typed.{TypedExpr, Convert}
 use Rattle.pa_typed.specs.Units.{ProgramTree}
 use Rattle.pa_integer.specs.Integers.{is_width, is_in_range, residue, wrapped, settled}
 use Rattle.pa_cmean.specs.Results.{given}
@@ -15,7 +13,7 @@ use Rattle.pa_cmean.specs.State.{State, Cont, Again}
 use Rattle.pa_cmean.specs.ExprTypes.{type_of}
 use Rattle.pa_cmean.specs.Expressions.{eval}
 use Rattle.pa_lir.specs.declared.op.Op.TheVariants as op
-use Rattle.pa_lir.specs.declared.op.BinOp.TheVariants.{Eq, Ne}
+use Rattle.pa_lir.specs.declared.op.BinOp.TheVariants.{Ne}
 use Rattle.pa_lir.specs.declared.function.Lir.{Lir}
 use Rattle.pa_lir.specs.Operators.{truth as flat_bit}
 use Rattle.pa_lir.specs.Values as flat
@@ -34,12 +32,12 @@ use Rattle.pa_lowered.proofs.Following.{grows_same, undefined_follows, tick_foll
 use Rattle.pa_lowered.proofs.Standing.{IsVoid, has_value, keeps_same}
 use Rattle.pa_lowered.proofs.Numbers.{extends_is, wrapped_is_of}
 use Rattle.pa_lowered.proofs.Branching.{truth_is}
-use Rattle.pa_lowered.proofs.Testing.{not_zero, is_zero, test_follows}
+use Rattle.pa_lowered.proofs.Testing.{not_zero, test_follows}
 use Rattle.pa_lowered.proofs.Evaluating.{with_left, SimExpr, TakesAt, takes_at, takes_grown, value_follows}
 
 module _ (program : ProgramTree) (lir : Lir) (again : Again) (bound : ℕ) (w : Entered) (live : List ℕ) where
   -- the low bits of a number, extended
-  extend_follows : (k signed : Bool) (bits : ℕ) (z : ℤ) (at c d l : ℕ) (r : Room) (before ts : Temps) (b m : Map) (go : Cont) (st : State) (s : Flat) → IsTrue (is_width bits) → st.left < bound → Grows b m → At w live at ts m st s → Keeps r before ts
+  pub extend_follows : (k signed : Bool) (bits : ℕ) (z : ℤ) (at c d l : ℕ) (r : Room) (before ts : Temps) (b m : Map) (go : Cont) (st : State) (s : Flat) → IsTrue (is_width bits) → st.left < bound → Grows b m → At w live at ts m st s → Keeps r before ts
       → temp_in ts r.to ≡ Some (flat.Number (residue 64 z)) → Contains w.function.ops at (op.Extend r.to r.to bits signed ∷ []) → d + 5 ≤ c → TakesAt program lir again bound w live (at + 1) r (Of k (Integer bits signed)) before b d l go → Follows lir m c l (go (value.Number (wrapped bits signed z)) st) s
   unfolding act_of
   extend_follows k signed bits z at c d l r before ts b m go st s width lt g a kept has code pays t =

@@ -9,3 +9,6 @@ pub mod Branching
 pub mod Testing
 pub mod Deciding
 pub mod Converting
+pub mod Operators
+pub mod Types
+pub mod Loading

@@ -1,5 +1,5 @@
 -- The 64 bits of a number of a type, and what extends, negates or tests them.
-use Rattle.std.proofs.Common.{◌≡◌, ℕ, zero, suc, ◌+◌, ◌*◌, ◌/◌, ◌%◌, ◌^◌, ◌-◌, ◌<◌, ◌≤◌, ℤ, pos, negsuc, Bool, true, false, IsTrue, refl, sym, ap, subst, ◌∙◌, arith, Option, Some, None}
+use Rattle.std.proofs.Common.{◌≡◌, ℕ, zero, suc, ◌+◌, ◌*◌, ◌/◌, ◌%◌, ◌^◌, ◌-◌, ◌<◌, ◌≤◌, ℤ, pos, negsuc, neg_ℤ, Bool, true, false, IsTrue, refl, sym, ap, subst, ◌∙◌, arith, Option, Some, None}
 use Rattle.std.specs.Int.RustNames.{unsigned_abs}
 use Rattle.pa_integer.proofs.Ranges.{number_bound}
 use Rattle.std.specs.Prelude.{◌==◌, ◌&&◌, nat_lt, if◌then◌else◌}
@@ -8,6 +8,7 @@ use Rattle.std.proofs.lemmas.Bool.Decides.{nat_tests}
 use Rattle.pa_ctype.specs.Types.{TypeTree, Of, Void, Boolean, Integer, Pointer, Array, Struct, Function}
 use Rattle.pa_ctype.specs.Values.{CValue, Number}
 use Rattle.pa_integer.specs.Integers.{is_width, is_in_range, residue, of_bits, wrapped, is_zero}
+use Rattle.pa_num.specs.Arithmetic.{sub64, not64, wrap}
 use Rattle.pa_cmean.specs.Operations.{literal}
 use Rattle.pa_lir.specs.Values.{extended}
 use Rattle.pa_lowered.specs.Objects.{IsOf}
@@ -128,11 +129,11 @@ wrapped_fits bits w = by_width Fits at_8 at_16 at_32 at_64 bits w
 
 -- ---- numbers of a type
 
-both_parts : (a b : Bool) → IsTrue (a && b) → IsTrue a × IsTrue b
+pub both_parts : (a b : Bool) → IsTrue (a && b) → IsTrue a × IsTrue b
 both_parts true b h = (refl, h)
 both_parts false b h = cc
 
-both_true : (a b : Bool) → IsTrue a → IsTrue b → IsTrue (a && b)
+pub both_true : (a b : Bool) → IsTrue a → IsTrue b → IsTrue (a && b)
 both_true true b h k = k
 both_true false b h k = cc
 
@@ -180,3 +181,72 @@ zero_is (Of c (Pointer to schema)) z h = absurd h
 zero_is (Of c (Array of count)) z h = absurd h
 zero_is (Of c (Struct id)) z h = absurd h
 zero_is (Of c (Function params result)) z h = absurd h
+
+abbrev Stays : ℕ → Type 0
+Stays bits = (signed : Bool) (z : ℤ) → IsTrue (is_in_range bits signed z) → wrapped bits signed z ≡ z
+
+-- a number of the type is converted to itself
+pub wrapped_same : (bits : ℕ) → IsTrue (is_width bits) → Stays bits
+wrapped_same bits w = by_width Stays at_8 at_16 at_32 at_64 bits w
+  where
+    at_8 : Stays 8
+    at_8 false (pos n) h = ap pos (grind (arith, nat_tests))
+    at_8 false (negsuc n) h = cc
+    at_8 true (pos n) h = grind (arith, nat_tests)
+    at_8 true (negsuc n) h = grind (arith, nat_tests)
+    at_16 : Stays 16
+    at_16 false (pos n) h = ap pos (grind (arith, nat_tests))
+    at_16 false (negsuc n) h = cc
+    at_16 true (pos n) h = grind (arith, nat_tests)
+    at_16 true (negsuc n) h = grind (arith, nat_tests)
+    at_32 : Stays 32
+    at_32 false (pos n) h = ap pos (grind (arith, nat_tests))
+    at_32 false (negsuc n) h = cc
+    at_32 true (pos n) h = grind (arith, nat_tests)
+    at_32 true (negsuc n) h = grind (arith, nat_tests)
+    at_64 : Stays 64
+    at_64 false (pos n) h = ap pos (grind (arith, nat_tests))
+    at_64 false (negsuc n) h = cc
+    at_64 true (pos n) h = grind (arith, nat_tests)
+    at_64 true (negsuc n) h = grind (arith, nat_tests)
+
+-- ---- operators on one number
+
+pub negative_is : (z : ℤ) → sub64 0 (residue 64 z) ≡ residue 64 (neg_ℤ z)
+unfolding sub64 wrap
+negative_is (pos zero) = refl
+negative_is (pos (suc n)) = omega arith
+negative_is (negsuc n) = omega arith
+
+-- each bit turned
+abbrev pub turned_bits : ℤ → ℤ
+turned_bits (pos n) = negsuc n
+turned_bits (negsuc n) = pos n
+
+pub turned_is : (z : ℤ) → not64 (residue 64 z) ≡ residue 64 (turned_bits z)
+unfolding not64
+turned_is (pos n) = refl
+turned_is (negsuc n) = omega arith
+
+abbrev Turns : ℕ → Type 0
+Turns bits = (z : ℤ) → 2 ^ bits - 1 - residue bits z ≡ residue bits (turned_bits z)
+
+pub complement_is : (bits : ℕ) → IsTrue (is_width bits) → Turns bits
+complement_is bits w = by_width Turns at_8 at_16 at_32 at_64 bits w
+  where
+    at_8 : Turns 8
+    at_8 (pos n) = refl
+    at_8 (negsuc n) = omega arith
+    at_16 : Turns 16
+    at_16 (pos n) = refl
+    at_16 (negsuc n) = omega arith
+    at_32 : Turns 32
+    at_32 (pos n) = refl
+    at_32 (negsuc n) = omega arith
+    at_64 : Turns 64
+    at_64 (pos n) = refl
+    at_64 (negsuc n) = omega arith
+
+pub turned_in_range : (bits : ℕ) (z : ℤ) → is_in_range bits true (turned_bits z) ≡ is_in_range bits true z
+turned_in_range bits (pos n) = refl
+turned_in_range bits (negsuc n) = refl

@@ -7,6 +7,7 @@ use Rattle.pa_integer.specs.Integers.{is_width, is_in_range, residue}
 use Rattle.pa_lir.specs.Values as flat
 use Rattle.pa_lir.specs.Values.{FlatValue, Byte, value_in, plain}
 use Rattle.pa_lower.specs.Operations.{bytes_of, is_signed}
+use Rattle.pa_lower.specs.Programs.{is_integer}
 
 -- ---- the map of objects
 
@@ -50,20 +51,16 @@ abbrev pub HasValue : Map → TypeTree → Option CValue → List Byte → Type 
 HasValue m of None bs = Unit {0}
 HasValue m of (Some v) bs = (u : FlatValue) × Stands m of v u × (value_in (is_signed of) bs ≡ Some u)
 
-abbrev pub HasCell : Map → List Byte → Cell → Type 0
-HasCell m bs cell = HasValue m cell.of cell.value (take (bytes_of cell.of) (drop cell.at bs))
-
--- cells in their order, the first no sooner than a place, none before the end of the one before, the last within so many bytes
-abbrev pub AreLaid : (from size : ℕ) → List Cell → Type 0
-AreLaid from size [] = from ≤ size
-AreLaid from size (cell ∷ cells) = (from ≤ cell.at) × AreLaid (cell.at + bytes_of cell.of) size cells
-
--- a living object that may be written, with a value of each cell
+-- A living object of an integer type has one cell, of all its bytes, and may be written.
 pub record IsObject (m : Map) (x : value.Object) (y : flat.Object) : Type 0 where
   pub alive : y.alive ≡ true
   pub mutable : y.constant ≡ false
-  pub laid : AreLaid 0 x.size x.cells
-  pub cells : All (HasCell m y.bytes) x.cells
+  pub cell : Cell
+  pub only : x.cells ≡ cell ∷ []
+  pub first : cell.at ≡ 0
+  pub integer : IsTrue (is_integer cell.of)
+  pub size : x.size ≡ bytes_of cell.of
+  pub value : HasValue m cell.of cell.value y.bytes
 
 -- the local object of this number, dead perhaps
 abbrev pub IsLocal : value.Objects → ℕ → value.Object → Type 0
