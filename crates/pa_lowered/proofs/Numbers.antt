@@ -194,16 +194,19 @@ wrapped_same bits w = by_width Stays at_8 at_16 at_32 at_64 bits w
     at_8 false (negsuc n) h = cc
     at_8 true (pos n) h = grind (arith, nat_tests)
     at_8 true (negsuc n) h = grind (arith, nat_tests)
+
     at_16 : Stays 16
     at_16 false (pos n) h = ap pos (grind (arith, nat_tests))
     at_16 false (negsuc n) h = cc
     at_16 true (pos n) h = grind (arith, nat_tests)
     at_16 true (negsuc n) h = grind (arith, nat_tests)
+
     at_32 : Stays 32
     at_32 false (pos n) h = ap pos (grind (arith, nat_tests))
     at_32 false (negsuc n) h = cc
     at_32 true (pos n) h = grind (arith, nat_tests)
     at_32 true (negsuc n) h = grind (arith, nat_tests)
+
     at_64 : Stays 64
     at_64 false (pos n) h = ap pos (grind (arith, nat_tests))
     at_64 false (negsuc n) h = cc
@@ -237,12 +240,15 @@ complement_is bits w = by_width Turns at_8 at_16 at_32 at_64 bits w
     at_8 : Turns 8
     at_8 (pos n) = refl
     at_8 (negsuc n) = omega arith
+
     at_16 : Turns 16
     at_16 (pos n) = refl
     at_16 (negsuc n) = omega arith
+
     at_32 : Turns 32
     at_32 (pos n) = refl
     at_32 (negsuc n) = omega arith
+
     at_64 : Turns 64
     at_64 (pos n) = refl
     at_64 (negsuc n) = omega arith

@@ -76,7 +76,7 @@ module _ (program : ProgramTree) (lir : Lir) (again : Again) (bound : ℕ) (w : 
       by_width : (q : Bool) → is_width bits ≡ q → Follows lir m c l (given (if q then option_map (λ n. value.Number n) (result bits signed) else None) (λ v. go v st)) s
       by_width true e = weaker lir m (d + 5 + 5) l c l _ s (omega arith) (omega arith) (changes_follow o (residue 64 z) (residue 64 x) at (d + 5) l r before ts m st s _ a kept has does code.0
           (λ q later there keeps at_to. subst (λ y. Follows lir m (d + 5) l (given (option_map (λ n. value.Number n) y) (λ v. go v st)) q) (sym (law k signed bits refl e))
-              (settled_follows k signed bits x (suc at) (d + 5) d l r before later b m go st q e lt g there keeps at_to code.2 (omega arith) (takes_at program lir again bound w live _ (suc at + length (wrap_ops (Of k (Integer bits signed)) r.to)) r (Of k (Integer bits signed)) before b d l go (omega arith) t))))
+          (settled_follows k signed bits x (suc at) (d + 5) d l r before later b m go st q e lt g there keeps at_to code.2 (omega arith) (takes_at program lir again bound w live _ (suc at + length (wrap_ops (Of k (Integer bits signed)) r.to)) r (Of k (Integer bits signed)) before b d l go (omega arith) t))))
       by_width false e = undefined_follows lir m c l s
   one_follows o result (Of k Void) z x does law at c d l r before ts b m go st s lt g a kept has code pays t = undefined_follows lir m c l s
   one_follows o result (Of k Boolean) z x does law at c d l r before ts b m go st s lt g a kept has code pays t = undefined_follows lir m c l s
@@ -115,12 +115,12 @@ module _ (program : ProgramTree) (lir : Lir) (again : Again) (bound : ℕ) (w : 
     by = λ n r same at c d l go ts m st s room cheap code t le a around.
         let parts = expr_ops n r e in
         tick_follows lir m c l bound st s _ a.ended le (λ j lt.
-            is_part.by n r same at (c + 64) (c + 64) l _ ts m (record st { left = j }) s room (omega arith) (contains_front w.function.ops at parts (unary_ops o of r.to r.free) code)
-            (record {
-              by = λ v ts1 m1 st1 s1 lt1 g1 a1 in1 kept1.
-                  let u = has_value m1 (type_of e) v (temp_in ts1 r.to) some in1 in
-                  unary_follows o (type_of e) of some type v u.0 (at + length parts) (c + 64) d l r ts1 ts1 m1 m1 go st1 s1 room lt1 (grows_same m1) a1 (keeps_same r ts1) u.1 u.2 (contains_behind w.function.ops at parts (unary_ops o of r.to r.free) code) (omega arith)
-                  (takes_at program lir again bound w live (at + length (parts ++ unary_ops o of r.to r.free)) (at + length parts + length (unary_ops o of r.to r.free)) r of ts1 m1 d l go (omega (arith, length-append parts (unary_ops o of r.to r.free))) (takes_grown program lir again bound w live _ r of ts ts1 m m1 d l go g1 kept1 t));
-            })
-            (omega arith) (with_left w live at j ts m st s a) around);
+        is_part.by n r same at (c + 64) (c + 64) l _ ts m (record st { left = j }) s room (omega arith) (contains_front w.function.ops at parts (unary_ops o of r.to r.free) code)
+        (record {
+          by = λ v ts1 m1 st1 s1 lt1 g1 a1 in1 kept1.
+              let u = has_value m1 (type_of e) v (temp_in ts1 r.to) some in1 in
+              unary_follows o (type_of e) of some type v u.0 (at + length parts) (c + 64) d l r ts1 ts1 m1 m1 go st1 s1 room lt1 (grows_same m1) a1 (keeps_same r ts1) u.1 u.2 (contains_behind w.function.ops at parts (unary_ops o of r.to r.free) code) (omega arith)
+              (takes_at program lir again bound w live (at + length (parts ++ unary_ops o of r.to r.free)) (at + length parts + length (unary_ops o of r.to r.free)) r of ts1 m1 d l go (omega (arith, length-append parts (unary_ops o of r.to r.free))) (takes_grown program lir again bound w live _ r of ts ts1 m m1 d l go g1 kept1 t));
+        })
+        (omega arith) (with_left w live at j ts m st s a) around);
   }
