@@ -36,7 +36,7 @@ fn value_of(types: &Types, of: u32) -> Option<TypedForm>
 
 /// The types of the rows, by their numbers.
 #[derive(Clone, Copy)]
-struct Numbers {
+struct RowTypes {
     void: u32,
     int: u32,
     int_pointer: u32,
@@ -47,7 +47,7 @@ struct Numbers {
 
 /// The types of the rows: a struct without a body among them, and the functions `const int (void)` and
 /// `const int (int, int *)`.
-fn numbers(types: &mut Types) -> Result<Numbers, Memory>
+fn row_types(types: &mut Types) -> Result<RowTypes, Memory>
     requires { length types.old.structs < 2 ^ 32 }
 {
     let id = types.declare()?;
@@ -58,7 +58,7 @@ fn numbers(types: &mut Types) -> Result<Numbers, Memory>
     let constant_int = types.constant(int)?;
     let no_parameter = types.function(&[], constant_int)?;
     let int_and_pointer = types.function(&[int, int_pointer], constant_int)?;
-    Ok(Numbers {
+    Ok(RowTypes {
         void,
         int,
         int_pointer,
@@ -114,7 +114,7 @@ fn answer(alloc: Global, types: &mut Types, row: &Row) -> Option<Result<u32, Typ
 #[test]
 fn the_first_rule_by_number_of_the_arguments_and_their_count(rt: HostRuntime) -> Result<(), Fail> {
     let mut types = Types::new(rt.alloc(), 0);
-    let n = numbers(&mut types)?;
+    let n = row_types(&mut types)?;
     let (none, int, pointer) = (None, Some(n.int), Some(n.int_pointer));
     let (void, structure) = (Some(n.void), Some(n.structure));
     let row = |function, arguments, wanted| Row {
@@ -161,7 +161,7 @@ fn function_of(types: &Types, of: u32) -> Option<Result<u32, TypeRule>> {
 #[test]
 fn a_pointer_to_a_function_is_called(rt: HostRuntime) -> Result<(), Fail> {
     let mut types = Types::new(rt.alloc(), 0);
-    let n = numbers(&mut types)?;
+    let n = row_types(&mut types)?;
     let pointer = pointer_to(&mut types, n.no_parameter)?;
     assert_eq!(rt; function_of(&types, pointer), Some(Ok(n.no_parameter)));
     assert_eq!(rt; function_of(&types, n.int_pointer), Some(Err(TypeRule::C8)));
