@@ -1,6 +1,7 @@
 pub mod Agreeing
 pub mod Declaring
 pub mod Limits
+pub mod Linked
 pub mod Missing
 pub mod Moved
 pub mod NameNumbers

@@ -4,6 +4,7 @@
 mod definitions;
 mod known;
 mod limits;
+mod linked;
 mod missing;
 mod names;
 mod numbered_expr;
