@@ -161,6 +161,7 @@ pend_some (CallPointer arguments function of) = let i = pend_some function in om
 
 mutual
   unfolding above above_all expr_ops exprs_ops
+
   pub expr_held : (n : ℕ) (r : Room) (e : TypedExpr) → IsRoom r → above_all (expr_ops n r e) + spares r.spare ≤ r.free + 2 * expr_pend e
   expr_held n r (LocalPlace local of) h = let f = few r.spare in let t = h.to in omega (arith, f, t)
   expr_held n r (Number value of) h = let f = few r.spare in let t = h.to in omega (arith, f, t)

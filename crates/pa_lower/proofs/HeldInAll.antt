@@ -111,6 +111,7 @@ enter_held (Some test) head = omega arith
 
 mutual
   unfolding above above_all stmt_ops stmts_ops switched_ops items_ops
+
   stmt_held : (n : ℕ) (w : Ways) (s : TypedStmt) → above_all (stmt_ops n w s) ≤ 2 + 2 * stmt_pend s
   stmt_held n w (Compound items) = stmts_held n w items
   stmt_held n w (InitLocal name) = local_held n name.local name.initials
