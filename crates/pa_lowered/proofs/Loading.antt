@@ -1,6 +1,6 @@
 -- Reads of objects (C11 6.3.2.1p2).
-use Rattle.std.proofs.Common.{◌≡◌, ℕ, zero, suc, ◌+◌, ◌<◌, ◌≤◌, List, [], ◌∷◌, ◌++◌, length, refl, sym, ap, subst, ◌∙◌, arith, Option, Some, None, length-append, Bool, true, false, IsTrue}
-use Rattle.std.specs.Prelude.{◌&&◌, ◌==◌, nat_le, take, drop, slice_get, unwrap_or, if◌then◌else◌, option_map, option_and_then}
+use Rattle.std.proofs.Common.{◌≡◌, ℕ, suc, ◌+◌, ◌<◌, ◌≤◌, List, [], ◌∷◌, ◌++◌, length, refl, sym, ap, subst, ◌∙◌, arith, Option, Some, None, length-append, Bool, true, false, IsTrue}
+use Rattle.std.specs.Prelude.{◌&&◌, nat_le, take, drop, slice_get, unwrap_or, if◌then◌else◌, option_and_then}
 use Rattle.std.proofs.lemmas.Bool.{eq-eqb}
 use Rattle.std.proofs.lemmas.Bool.Decides.{nat_tests}
 use Rattle.std.proofs.lemmas.List.{take_all}
@@ -13,7 +13,6 @@ use Rattle.pa_typed.specs.Units.{ProgramTree}
 use Rattle.pa_cmean.specs.State.{State, Cont, Again, value_at}
 use Rattle.pa_cmean.specs.ExprTypes.{type_of}
 use Rattle.pa_cmean.specs.Expressions.{eval, load}
-use Rattle.pa_lir.specs.declared.op.Op.TheVariants as op
 use Rattle.pa_lir.specs.declared.function.Lir.{Lir}
 use Rattle.pa_lir.specs.Values as flat
 use Rattle.pa_lir.specs.Values.{FlatValue, Byte, value_in, bytes_at}
@@ -25,12 +24,12 @@ use Rattle.pa_lower.specs.Expressions.{expr_ops}
 use Rattle.pa_lowered.specs.Objects.{Map, Grows, Stands, IsPlace, HasValue, IsObject, HasObjects}
 use Rattle.pa_lowered.specs.Results.{Follows}
 use Rattle.pa_lowered.specs.Calls.{Temps, Entered, At}
-use Rattle.pa_lowered.specs.Simulates.{Contains, IsIn, Keeps}
+use Rattle.pa_lowered.specs.Simulates.{Keeps}
 use Rattle.pa_lowered.proofs.Containing.{contains_front, contains_behind}
 use Rattle.pa_lowered.proofs.Following.{grows_same, undefined_follows, tick_follows}
 use Rattle.pa_lowered.proofs.Standing.{has_value, keeps_same}
-use Rattle.pa_lowered.proofs.Types.{same_bytes, same_sign, is_integer_too, stands_same, not_void}
-use Rattle.pa_lowered.proofs.Evaluating.{with_left, SimExpr, TakesAt, takes_at, takes_grown, value_follows, given_follows}
+use Rattle.pa_lowered.proofs.Types.{same_bytes, same_sign, stands_same, not_void}
+use Rattle.pa_lowered.proofs.Evaluating.{with_left, SimExpr, TakesAt, takes_grown, value_follows, given_follows}
 
 -- ---- objects of one cell
 
@@ -51,6 +50,7 @@ cell_is m object q offset t cell living first e = by_life object.alive refl
     by_type : (i : IsObject m object q) → object.alive ≡ true → (b : Bool) → same_but_const i.cell.of t ≡ b → (if b then Some i.cell else None) ≡ Some cell → IsCell m object q t cell
     by_type i alive true s h = record { is = i; alive = alive; only = ap (λ o. unwrap_or o cell) (sym h); typed = s }
     by_type i alive false s h = cc
+
     by_life : (b : Bool) → object.alive ≡ b → IsCell m object q t cell
     by_life true alive =
         let i = living alive in
@@ -88,12 +88,14 @@ read_stands m who os qs place at t x objects is_place is_int e =
         let a = cell_is m object q place.offset t cell living is_place.first h in
         let i = a.is in
         let v = value_of m i.cell.of i.cell.value x q.bytes (ap (λ (c : Cell). c.value) (sym a.only) ∙ k) i.value in
-        let bytes : bytes_of t ≡ length q.bytes = sym (size ∙ i.size ∙ same_bytes i.cell.of t i.integer a.typed) in
-        (v.0, stands_same m i.cell.of t x v.0 i.integer a.typed v.1,
-            ap (λ z. option_and_then (value_in (is_signed t)) (bytes_from qs (bytes_of t) z)) is_place.is
-            ∙ ap (λ o. option_and_then (value_in (is_signed t)) (option_and_then (bytes_at (bytes_of t) 0) o)) flat_is
-            ∙ ap (λ o. option_and_then (value_in (is_signed t)) o) (whole_bytes (bytes_of t) q i.alive bytes)
-            ∙ ap (λ s. value_in s q.bytes) (sym (same_sign i.cell.of t i.integer a.typed)) ∙ v.2)
+        let bytes : bytes_of t ≡ length q.bytes = sym (size ∙ i.size ∙ same_bytes i.cell.of t i.integer a.typed) in (
+          v.0,
+          stands_same m i.cell.of t x v.0 i.integer a.typed v.1,
+          ap (λ z. option_and_then (value_in (is_signed t)) (bytes_from qs (bytes_of t) z)) is_place.is
+              ∙ ap (λ o. option_and_then (value_in (is_signed t)) (option_and_then (bytes_at (bytes_of t) 0) o)) flat_is
+              ∙ ap (λ o. option_and_then (value_in (is_signed t)) o) (whole_bytes (bytes_of t) q i.alive bytes)
+              ∙ ap (λ s. value_in s q.bytes) (sym (same_sign i.cell.of t i.integer a.typed)) ∙ v.2,
+        )
 
 module _ (program : ProgramTree) (lir : Lir) (again : Again) (bound : ℕ) (w : Entered) (live : List ℕ) where
   load_follows : (t of : TypeTree) → IsTrue (is_integer t) → same_but_const t of ≡ true → (v : CValue) (p : FlatValue) (place at next c d l : ℕ) (r : Room) (before ts : Temps) (b m : Map) (go : Cont) (st : State) (s : Flat) → st.left < bound → Grows b m → At w live at ts m st s → Keeps r before ts
@@ -101,9 +103,9 @@ module _ (program : ProgramTree) (lir : Lir) (again : Again) (bound : ℕ) (w : 
   unfolding load value_at act_of
   load_follows t of is same (value.At there) p place at next c d l r before ts b m go st s lt g a kept has stands code pays n k =
       given_follows lir m c l (read st.world.objects there t) (λ x. go x st) s (λ x e.
-          let y = read_stands m a.sees.who st.world.objects s.objects there p t x a.sees.objects stands is e in
-          value_follows program lir again bound w live at next c d l r of before ts b m go x y.0 st s (load_op t r.to place) lt g a kept code
-          (ap (λ o. gives r.to (option_and_then (value_in (is_signed t)) (option_and_then (bytes_from s.objects (bytes_of t)) o))) has ∙ ap (gives r.to) y.2) pays (stands_same m t of x y.0 is same y.1) n k)
+      let y = read_stands m a.sees.who st.world.objects s.objects there p t x a.sees.objects stands is e in
+      value_follows program lir again bound w live at next c d l r of before ts b m go x y.0 st s (load_op t r.to place) lt g a kept code
+      (ap (λ o. gives r.to (option_and_then (value_in (is_signed t)) (option_and_then (bytes_from s.objects (bytes_of t)) o))) has ∙ ap (gives r.to) y.2) pays (stands_same m t of x y.0 is same y.1) n k)
   load_follows t of is same (value.Number z) p place at next c d l r before ts b m go st s lt g a kept has stands code pays n k = undefined_follows lir m c l s
   load_follows t of is same (value.Code name) p place at next c d l r before ts b m go st s lt g a kept has stands code pays n k = undefined_follows lir m c l s
   load_follows t of is same value.Null p place at next c d l r before ts b m go st s lt g a kept has stands code pays n k = undefined_follows lir m c l s
@@ -115,12 +117,12 @@ module _ (program : ProgramTree) (lir : Lir) (again : Again) (bound : ℕ) (w : 
     by = λ n r same at c d l go ts m st s room cheap code t le a around.
         let parts = expr_ops n r from in let loads = load_op (type_of from) r.to r.to ∷ [] in
         tick_follows lir m c l bound st s _ a.ended le (λ j lt.
-            is_part.by n r same at (c + 64) (c + 64) l _ ts m (record st { left = j }) s room (omega arith) (contains_front w.function.ops at parts loads code)
-            (record {
-              by = λ v ts1 m1 st1 s1 lt1 g1 a1 in1 kept1.
-                  let u = has_value m1 (type_of from) v (temp_in ts1 r.to) (not_void (type_of from) is) in1 in
-                  load_follows (type_of from) of is same_type v u.0 r.to (at + length parts) (at + length (parts ++ loads)) (c + 64) d l r ts1 ts1 m1 m1 go st1 s1 lt1 (grows_same m1) a1 (keeps_same r ts1) u.1 u.2 (contains_behind w.function.ops at parts loads code).0 (omega arith) (omega (arith, length-append parts loads))
-                  (takes_grown program lir again bound w live _ r of ts ts1 m m1 d l go g1 kept1 t);
-            })
-            (omega arith) (with_left w live at j ts m st s a) around);
+        is_part.by n r same at (c + 64) (c + 64) l _ ts m (record st { left = j }) s room (omega arith) (contains_front w.function.ops at parts loads code)
+        (record {
+          by = λ v ts1 m1 st1 s1 lt1 g1 a1 in1 kept1.
+              let u = has_value m1 (type_of from) v (temp_in ts1 r.to) (not_void (type_of from) is) in1 in
+              load_follows (type_of from) of is same_type v u.0 r.to (at + length parts) (at + length (parts ++ loads)) (c + 64) d l r ts1 ts1 m1 m1 go st1 s1 lt1 (grows_same m1) a1 (keeps_same r ts1) u.1 u.2 (contains_behind w.function.ops at parts loads code).0 (omega arith) (omega (arith, length-append parts loads))
+              (takes_grown program lir again bound w live _ r of ts ts1 m m1 d l go g1 kept1 t);
+        })
+        (omega arith) (with_left w live at j ts m st s a) around);
   }

@@ -1,13 +1,11 @@
 -- The 64 bits of a number of a type, and what extends, negates or tests them.
-use Rattle.std.proofs.Common.{◌≡◌, ℕ, zero, suc, ◌+◌, ◌*◌, ◌/◌, ◌%◌, ◌^◌, ◌-◌, ◌<◌, ◌≤◌, ℤ, pos, negsuc, neg_ℤ, Bool, true, false, IsTrue, refl, sym, ap, subst, ◌∙◌, arith, Option, Some, None}
-use Rattle.std.specs.Int.RustNames.{unsigned_abs}
+use Rattle.std.proofs.Common.{◌≡◌, ℕ, zero, suc, ◌^◌, ◌-◌, ℤ, pos, negsuc, neg_ℤ, Bool, true, false, IsTrue, refl, sym, ap, subst, ◌∙◌, arith, Some, None}
 use Rattle.pa_integer.proofs.Ranges.{number_bound}
-use Rattle.std.specs.Prelude.{◌==◌, ◌&&◌, nat_lt, if◌then◌else◌}
-use Rattle.std.specs.Int.{bit_at}
+use Rattle.std.specs.Prelude.{◌==◌, ◌&&◌, if◌then◌else◌}
 use Rattle.std.proofs.lemmas.Bool.Decides.{nat_tests}
 use Rattle.pa_ctype.specs.Types.{TypeTree, Of, Void, Boolean, Integer, Pointer, Array, Struct, Function}
-use Rattle.pa_ctype.specs.Values.{CValue, Number}
-use Rattle.pa_integer.specs.Integers.{is_width, is_in_range, residue, of_bits, wrapped, is_zero}
+use Rattle.pa_ctype.specs.Values.{Number}
+use Rattle.pa_integer.specs.Integers.{is_width, is_in_range, residue, wrapped, is_zero}
 use Rattle.pa_num.specs.Arithmetic.{sub64, not64, wrap}
 use Rattle.pa_cmean.specs.Operations.{literal}
 use Rattle.pa_lir.specs.Values.{extended}
@@ -194,16 +192,19 @@ wrapped_same bits w = by_width Stays at_8 at_16 at_32 at_64 bits w
     at_8 false (negsuc n) h = cc
     at_8 true (pos n) h = grind (arith, nat_tests)
     at_8 true (negsuc n) h = grind (arith, nat_tests)
+
     at_16 : Stays 16
     at_16 false (pos n) h = ap pos (grind (arith, nat_tests))
     at_16 false (negsuc n) h = cc
     at_16 true (pos n) h = grind (arith, nat_tests)
     at_16 true (negsuc n) h = grind (arith, nat_tests)
+
     at_32 : Stays 32
     at_32 false (pos n) h = ap pos (grind (arith, nat_tests))
     at_32 false (negsuc n) h = cc
     at_32 true (pos n) h = grind (arith, nat_tests)
     at_32 true (negsuc n) h = grind (arith, nat_tests)
+
     at_64 : Stays 64
     at_64 false (pos n) h = ap pos (grind (arith, nat_tests))
     at_64 false (negsuc n) h = cc
@@ -237,12 +238,15 @@ complement_is bits w = by_width Turns at_8 at_16 at_32 at_64 bits w
     at_8 : Turns 8
     at_8 (pos n) = refl
     at_8 (negsuc n) = omega arith
+
     at_16 : Turns 16
     at_16 (pos n) = refl
     at_16 (negsuc n) = omega arith
+
     at_32 : Turns 32
     at_32 (pos n) = refl
     at_32 (negsuc n) = omega arith
+
     at_64 : Turns 64
     at_64 (pos n) = refl
     at_64 (negsuc n) = omega arith

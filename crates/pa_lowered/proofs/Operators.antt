@@ -1,6 +1,6 @@
 -- Operators on one number (C11 6.5.3.3).
-use Rattle.std.proofs.Common.{◌≡◌, ℕ, zero, suc, ◌+◌, ◌^◌, ◌-◌, ◌<◌, ◌≤◌, ℤ, neg_ℤ, List, [], ◌∷◌, ◌++◌, length, refl, sym, ap, subst, ◌∙◌, arith, Option, Some, None, length-append, Bool, true, false, IsTrue}
-use Rattle.std.specs.Prelude.{slice_get, not, ◌&&◌, if◌then◌else◌, option_map, option_and_then}
+use Rattle.std.proofs.Common.{◌≡◌, ℕ, suc, ◌+◌, ◌<◌, ◌≤◌, ℤ, neg_ℤ, List, ◌∷◌, ◌++◌, length, refl, sym, ap, subst, ◌∙◌, arith, Option, Some, None, length-append, Bool, true, false, IsTrue}
+use Rattle.std.specs.Prelude.{slice_get, not, if◌then◌else◌, option_map, option_and_then}
 use Rattle.pa_ctype.specs.Types.{TypeTree, Of, Void, Boolean, Integer, Pointer, Array, Struct, Function}
 use Rattle.pa_ctype.specs.Values as value
 use Rattle.pa_ctype.specs.Values.{CValue}
@@ -8,13 +8,12 @@ use Rattle.pa_typed.specs.Typed.{TypedExpr, Unary}
 use Rattle.pa_typed.specs.declared.expr.UnaryOperation.{UnaryOperation}
 use Rattle.pa_typed.specs.declared.expr.UnaryOperation.TheVariants.{Minus, Complement, Not}
 use Rattle.pa_typed.specs.Units.{ProgramTree}
-use Rattle.pa_integer.specs.Integers.{is_width, is_in_range, residue, of_bits, wrapped, settled, negated, complemented}
+use Rattle.pa_integer.specs.Integers.{is_width, is_in_range, residue, of_bits, settled, negated, complemented}
 use Rattle.pa_cmean.specs.Results.{Meaning, given}
 use Rattle.pa_cmean.specs.Operations.{truth, unary, in_integer}
 use Rattle.pa_cmean.specs.State.{State, Cont, Again}
 use Rattle.pa_cmean.specs.ExprTypes.{type_of}
 use Rattle.pa_cmean.specs.Expressions.{eval}
-use Rattle.pa_lir.specs.declared.op.Op.{Op}
 use Rattle.pa_lir.specs.declared.op.Op.TheVariants as op
 use Rattle.pa_lir.specs.declared.op.BinOp.TheVariants.{Eq}
 use Rattle.pa_lir.specs.declared.op.UnOp.{UnOp}
@@ -22,23 +21,23 @@ use Rattle.pa_lir.specs.declared.op.UnOp.TheVariants as one
 use Rattle.pa_lir.specs.declared.function.Lir.{Lir}
 use Rattle.pa_lir.specs.Operators.{truth as flat_bit, of_number, unary as flat_unary}
 use Rattle.pa_lir.specs.Values as flat
-use Rattle.pa_lir.specs.Meaning.{Flat, Gives, act_of, gives, temp_in}
+use Rattle.pa_lir.specs.Meaning.{Flat, act_of, gives, temp_in}
 use Rattle.pa_lower.specs.Temporaries.{Room}
-use Rattle.pa_lower.specs.Operations.{unary_ops, not_ops, wrap_ops}
+use Rattle.pa_lower.specs.Operations.{unary_ops, wrap_ops}
 use Rattle.pa_lower.specs.Expressions.{expr_ops}
 use Rattle.pa_lowered.specs.Objects.{Map, Grows, IsOf, Stands}
 use Rattle.pa_lowered.specs.Results.{Follows}
-use Rattle.pa_lowered.specs.Calls.{Temps, Entered, at_place, At}
-use Rattle.pa_lowered.specs.Simulates.{Contains, IsIn, IsRoom, Keeps}
+use Rattle.pa_lowered.specs.Calls.{Temps, Entered, At}
+use Rattle.pa_lowered.specs.Simulates.{Contains, IsRoom, Keeps}
 use Rattle.pa_lowered.proofs.Containing.{contains_front, contains_behind, temp_given}
 use Rattle.pa_lowered.proofs.Following.{grows_same, undefined_follows, tick_follows, weaker}
 use Rattle.pa_lowered.proofs.Stepping.{gives_follows}
 use Rattle.pa_lowered.proofs.Standing.{IsVoid, has_value, keeps_same, keeps_value}
-use Rattle.pa_lowered.proofs.Numbers.{both_parts, both_true, wrapped_is_of, wrapped_same, extends_is, negative_is, turned_bits, turned_is, complement_is, turned_in_range}
-use Rattle.pa_lowered.proofs.Branching.{flat_truth, truth_is}
+use Rattle.pa_lowered.proofs.Numbers.{both_parts, both_true, wrapped_same, negative_is, turned_bits, turned_is, complement_is, turned_in_range}
+use Rattle.pa_lowered.proofs.Branching.{truth_is}
 use Rattle.pa_lowered.proofs.Testing.{HasTruth, is_zero, test_follows}
 use Rattle.pa_lowered.proofs.Converting.{extend_follows}
-use Rattle.pa_lowered.proofs.Evaluating.{with_left, SimExpr, TakesAt, takes_at, takes_grown, given_follows}
+use Rattle.pa_lowered.proofs.Evaluating.{with_left, SimExpr, TakesAt, takes_at, takes_grown}
 
 -- each bit turned, in the type
 complemented_is : (bits : ℕ) (signed : Bool) (z : ℤ) → IsTrue (is_width bits) → IsTrue (is_in_range bits signed z) → complemented bits signed z ≡ settled bits signed (turned_bits z)
@@ -76,7 +75,7 @@ module _ (program : ProgramTree) (lir : Lir) (again : Again) (bound : ℕ) (w : 
       by_width : (q : Bool) → is_width bits ≡ q → Follows lir m c l (given (if q then option_map (λ n. value.Number n) (result bits signed) else None) (λ v. go v st)) s
       by_width true e = weaker lir m (d + 5 + 5) l c l _ s (omega arith) (omega arith) (changes_follow o (residue 64 z) (residue 64 x) at (d + 5) l r before ts m st s _ a kept has does code.0
           (λ q later there keeps at_to. subst (λ y. Follows lir m (d + 5) l (given (option_map (λ n. value.Number n) y) (λ v. go v st)) q) (sym (law k signed bits refl e))
-              (settled_follows k signed bits x (suc at) (d + 5) d l r before later b m go st q e lt g there keeps at_to code.2 (omega arith) (takes_at program lir again bound w live _ (suc at + length (wrap_ops (Of k (Integer bits signed)) r.to)) r (Of k (Integer bits signed)) before b d l go (omega arith) t))))
+          (settled_follows k signed bits x (suc at) (d + 5) d l r before later b m go st q e lt g there keeps at_to code.2 (omega arith) (takes_at program lir again bound w live _ (suc at + length (wrap_ops (Of k (Integer bits signed)) r.to)) r (Of k (Integer bits signed)) before b d l go (omega arith) t))))
       by_width false e = undefined_follows lir m c l s
   one_follows o result (Of k Void) z x does law at c d l r before ts b m go st s lt g a kept has code pays t = undefined_follows lir m c l s
   one_follows o result (Of k Boolean) z x does law at c d l r before ts b m go st s lt g a kept has code pays t = undefined_follows lir m c l s
@@ -115,12 +114,12 @@ module _ (program : ProgramTree) (lir : Lir) (again : Again) (bound : ℕ) (w : 
     by = λ n r same at c d l go ts m st s room cheap code t le a around.
         let parts = expr_ops n r e in
         tick_follows lir m c l bound st s _ a.ended le (λ j lt.
-            is_part.by n r same at (c + 64) (c + 64) l _ ts m (record st { left = j }) s room (omega arith) (contains_front w.function.ops at parts (unary_ops o of r.to r.free) code)
-            (record {
-              by = λ v ts1 m1 st1 s1 lt1 g1 a1 in1 kept1.
-                  let u = has_value m1 (type_of e) v (temp_in ts1 r.to) some in1 in
-                  unary_follows o (type_of e) of some type v u.0 (at + length parts) (c + 64) d l r ts1 ts1 m1 m1 go st1 s1 room lt1 (grows_same m1) a1 (keeps_same r ts1) u.1 u.2 (contains_behind w.function.ops at parts (unary_ops o of r.to r.free) code) (omega arith)
-                  (takes_at program lir again bound w live (at + length (parts ++ unary_ops o of r.to r.free)) (at + length parts + length (unary_ops o of r.to r.free)) r of ts1 m1 d l go (omega (arith, length-append parts (unary_ops o of r.to r.free))) (takes_grown program lir again bound w live _ r of ts ts1 m m1 d l go g1 kept1 t));
-            })
-            (omega arith) (with_left w live at j ts m st s a) around);
+        is_part.by n r same at (c + 64) (c + 64) l _ ts m (record st { left = j }) s room (omega arith) (contains_front w.function.ops at parts (unary_ops o of r.to r.free) code)
+        (record {
+          by = λ v ts1 m1 st1 s1 lt1 g1 a1 in1 kept1.
+              let u = has_value m1 (type_of e) v (temp_in ts1 r.to) some in1 in
+              unary_follows o (type_of e) of some type v u.0 (at + length parts) (c + 64) d l r ts1 ts1 m1 m1 go st1 s1 room lt1 (grows_same m1) a1 (keeps_same r ts1) u.1 u.2 (contains_behind w.function.ops at parts (unary_ops o of r.to r.free) code) (omega arith)
+              (takes_at program lir again bound w live (at + length (parts ++ unary_ops o of r.to r.free)) (at + length parts + length (unary_ops o of r.to r.free)) r of ts1 m1 d l go (omega (arith, length-append parts (unary_ops o of r.to r.free))) (takes_grown program lir again bound w live _ r of ts ts1 m m1 d l go g1 kept1 t));
+        })
+        (omega arith) (with_left w live at j ts m st s a) around);
   }
