@@ -1,11 +1,10 @@
 -- One of two codes, by a number in a temporary (C11 6.5.13 to 6.5.15, 6.8.4.1).
-use Rattle.std.proofs.Common.{◌≡◌, ℕ, zero, suc, ◌+◌, ◌<◌, ◌≤◌, List, [], ◌∷◌, ◌++◌, length, refl, sym, ap, subst, ◌∙◌, arith, Option, Some, None, length-append}
-use Rattle.std.specs.Prelude.{ℤ, pos, negsuc, slice_get, ◌==◌, not, Bool, true, false, option_map, option_and_then}
+use Rattle.std.proofs.Common.{◌≡◌, ℕ, zero, suc, ◌+◌, ◌≤◌, List, [], ◌∷◌, ◌++◌, length, refl, ap, ◌∙◌, arith, Some, length-append}
+use Rattle.std.specs.Prelude.{slice_get, ◌==◌, not, Bool, true, false, option_map, option_and_then}
 use Rattle.std.proofs.lemmas.Bool.Decides.{nat_tests}
 use Rattle.pa_ctype.specs.Types.{TypeTree}
 use Rattle.pa_ctype.specs.Values as value
 use Rattle.pa_ctype.specs.Values.{CValue}
-use Rattle.pa_integer.specs.Integers.{residue, is_zero}
 use Rattle.pa_cmean.specs.Results.{Meaning}
 use Rattle.pa_cmean.specs.Operations.{truth}
 use Rattle.pa_cmean.specs.State.{State, Cont, Again, choose}

@@ -1,11 +1,11 @@
 -- Constants (C11 6.4.4), names of locals (6.5.1p2), and the place of the store around.
 use Rattle.std.proofs.Common.{◌≡◌, ℕ, zero, suc, ◌+◌, ◌<◌, ◌≤◌, List, [], ◌∷◌, length, refl, sym, ap, subst, ◌∙◌, arith, Option, Some, None}
 use Rattle.std.proofs.lemmas.Bool.Decides.{nat_tests}
-use Rattle.std.specs.Prelude.{ℤ, slice_get, nat_le, nat_lt, Bool, true, false, if◌then◌else◌, get_or, option_map, option_and_then}
+use Rattle.std.specs.Prelude.{ℤ, slice_get, nat_le, nat_lt, true, if◌then◌else◌, get_or}
 use Rattle.pa_ctype.specs.Types.{TypeTree}
 use Rattle.pa_ctype.specs.Values as value
 use Rattle.pa_ctype.specs.Values.{Owner, Local, Place, CValue}
-use Rattle.pa_typed.specs.Typed.{TypedExpr, Number, LocalPlace, Same}
+use Rattle.pa_typed.specs.Typed.{Number, LocalPlace, Same}
 use Rattle.pa_typed.specs.Units.{ProgramTree}
 use Rattle.pa_integer.specs.Integers.{residue}
 use Rattle.pa_cmean.specs.Operations.{literal}

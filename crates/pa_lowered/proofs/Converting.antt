@@ -1,12 +1,12 @@
 -- Conversions (C11 6.3.1.2, 6.3.1.3).
-use Rattle.std.proofs.Common.{◌≡◌, ℕ, zero, suc, ◌+◌, ◌%◌, ◌^◌, ◌-◌, ◌<◌, ◌≤◌, ℤ, pos, negsuc, neg_ℤ, List, [], ◌∷◌, ◌++◌, length, refl, sym, ap, subst, ◌∙◌, arith, Option, Some, None, length-append, Bool, true, false, IsTrue}
-use Rattle.std.specs.Prelude.{not, if◌then◌else◌, option_map, option_and_then}
+use Rattle.std.proofs.Common.{◌≡◌, ℕ, ◌+◌, ◌<◌, ◌≤◌, ℤ, List, [], ◌∷◌, ◌++◌, length, refl, ap, ◌∙◌, arith, Some, None, length-append, Bool, true, false, IsTrue}
+use Rattle.std.specs.Prelude.{if◌then◌else◌, option_and_then}
 use Rattle.pa_ctype.specs.Types.{TypeTree, Of, Void, Boolean, Integer, Pointer, Array, Struct, Function}
 use Rattle.pa_ctype.specs.Values as value
 use Rattle.pa_ctype.specs.Values.{CValue}
 use Rattle.pa_typed.specs.Typed.{TypedExpr, Convert}
 use Rattle.pa_typed.specs.Units.{ProgramTree}
-use Rattle.pa_integer.specs.Integers.{is_width, is_in_range, residue, wrapped, settled}
+use Rattle.pa_integer.specs.Integers.{is_width, residue, wrapped}
 use Rattle.pa_cmean.specs.Results.{given}
 use Rattle.pa_cmean.specs.Operations.{truth, converted, nothing}
 use Rattle.pa_cmean.specs.State.{State, Cont, Again}
@@ -21,9 +21,9 @@ use Rattle.pa_lir.specs.Values.{extended}
 use Rattle.pa_lir.specs.Meaning.{Flat, act_of, gives, extends, temp_in}
 use Rattle.pa_lower.specs.Programs.{is_value}
 use Rattle.pa_lower.specs.Temporaries.{Room}
-use Rattle.pa_lower.specs.Operations.{convert_ops, not_ops, wrap_ops}
+use Rattle.pa_lower.specs.Operations.{convert_ops}
 use Rattle.pa_lower.specs.Expressions.{expr_ops}
-use Rattle.pa_lowered.specs.Objects.{Map, Grows, Stands}
+use Rattle.pa_lowered.specs.Objects.{Map, Grows}
 use Rattle.pa_lowered.specs.Results.{Follows}
 use Rattle.pa_lowered.specs.Calls.{Temps, Entered, At}
 use Rattle.pa_lowered.specs.Simulates.{Contains, IsIn, IsRoom, Keeps}

@@ -1,11 +1,11 @@
 -- Expressions whose parts decide which part is evaluated next (C11 6.5.13 to 6.5.15), and the comma (6.5.17).
-use Rattle.std.proofs.Common.{◌≡◌, ℕ, suc, ◌+◌, ◌<◌, ◌≤◌, List, [], ◌∷◌, ◌++◌, length, refl, sym, ap, subst, ◌∙◌, arith, Option, Some, None, length-append}
+use Rattle.std.proofs.Common.{◌≡◌, ℕ, ◌+◌, ◌<◌, ◌≤◌, List, [], ◌∷◌, ◌++◌, length, refl, sym, ap, subst, ◌∙◌, arith, Option, Some, length-append}
 use Rattle.std.specs.Prelude.{Bool, true, false}
 use Rattle.pa_ctype.specs.Types.{TypeTree}
 use Rattle.pa_ctype.specs.Values.{Place}
 use Rattle.pa_typed.specs.Typed.{TypedExpr, And, Or, Choose, Comma}
 use Rattle.pa_typed.specs.Units.{ProgramTree}
-use Rattle.pa_cmean.specs.State.{State, Cont, Again, choose}
+use Rattle.pa_cmean.specs.State.{State, Cont, Again}
 use Rattle.pa_cmean.specs.ExprTypes.{type_of}
 use Rattle.pa_cmean.specs.Expressions.{eval, gives_truth}
 use Rattle.pa_cmean.specs.Operations.{truth, of_truth}

@@ -12,3 +12,4 @@ pub mod Converting
 pub mod Operators
 pub mod Types
 pub mod Loading
+pub mod Statements

@@ -1,6 +1,6 @@
 -- Reads of objects (C11 6.3.2.1p2).
-use Rattle.std.proofs.Common.{◌≡◌, ℕ, zero, suc, ◌+◌, ◌<◌, ◌≤◌, List, [], ◌∷◌, ◌++◌, length, refl, sym, ap, subst, ◌∙◌, arith, Option, Some, None, length-append, Bool, true, false, IsTrue}
-use Rattle.std.specs.Prelude.{◌&&◌, ◌==◌, nat_le, take, drop, slice_get, unwrap_or, if◌then◌else◌, option_map, option_and_then}
+use Rattle.std.proofs.Common.{◌≡◌, ℕ, suc, ◌+◌, ◌<◌, ◌≤◌, List, [], ◌∷◌, ◌++◌, length, refl, sym, ap, subst, ◌∙◌, arith, Option, Some, None, length-append, Bool, true, false, IsTrue}
+use Rattle.std.specs.Prelude.{◌&&◌, nat_le, take, drop, slice_get, unwrap_or, if◌then◌else◌, option_and_then}
 use Rattle.std.proofs.lemmas.Bool.{eq-eqb}
 use Rattle.std.proofs.lemmas.Bool.Decides.{nat_tests}
 use Rattle.std.proofs.lemmas.List.{take_all}
@@ -13,7 +13,6 @@ use Rattle.pa_typed.specs.Units.{ProgramTree}
 use Rattle.pa_cmean.specs.State.{State, Cont, Again, value_at}
 use Rattle.pa_cmean.specs.ExprTypes.{type_of}
 use Rattle.pa_cmean.specs.Expressions.{eval, load}
-use Rattle.pa_lir.specs.declared.op.Op.TheVariants as op
 use Rattle.pa_lir.specs.declared.function.Lir.{Lir}
 use Rattle.pa_lir.specs.Values as flat
 use Rattle.pa_lir.specs.Values.{FlatValue, Byte, value_in, bytes_at}
@@ -25,12 +24,12 @@ use Rattle.pa_lower.specs.Expressions.{expr_ops}
 use Rattle.pa_lowered.specs.Objects.{Map, Grows, Stands, IsPlace, HasValue, IsObject, HasObjects}
 use Rattle.pa_lowered.specs.Results.{Follows}
 use Rattle.pa_lowered.specs.Calls.{Temps, Entered, At}
-use Rattle.pa_lowered.specs.Simulates.{Contains, IsIn, Keeps}
+use Rattle.pa_lowered.specs.Simulates.{Keeps}
 use Rattle.pa_lowered.proofs.Containing.{contains_front, contains_behind}
 use Rattle.pa_lowered.proofs.Following.{grows_same, undefined_follows, tick_follows}
 use Rattle.pa_lowered.proofs.Standing.{has_value, keeps_same}
-use Rattle.pa_lowered.proofs.Types.{same_bytes, same_sign, is_integer_too, stands_same, not_void}
-use Rattle.pa_lowered.proofs.Evaluating.{with_left, SimExpr, TakesAt, takes_at, takes_grown, value_follows, given_follows}
+use Rattle.pa_lowered.proofs.Types.{same_bytes, same_sign, stands_same, not_void}
+use Rattle.pa_lowered.proofs.Evaluating.{with_left, SimExpr, TakesAt, takes_grown, value_follows, given_follows}
 
 -- ---- objects of one cell
 

@@ -1,13 +1,11 @@
 -- The 64 bits of a number of a type, and what extends, negates or tests them.
-use Rattle.std.proofs.Common.{◌≡◌, ℕ, zero, suc, ◌+◌, ◌*◌, ◌/◌, ◌%◌, ◌^◌, ◌-◌, ◌<◌, ◌≤◌, ℤ, pos, negsuc, neg_ℤ, Bool, true, false, IsTrue, refl, sym, ap, subst, ◌∙◌, arith, Option, Some, None}
-use Rattle.std.specs.Int.RustNames.{unsigned_abs}
+use Rattle.std.proofs.Common.{◌≡◌, ℕ, zero, suc, ◌^◌, ◌-◌, ℤ, pos, negsuc, neg_ℤ, Bool, true, false, IsTrue, refl, sym, ap, subst, ◌∙◌, arith, Some, None}
 use Rattle.pa_integer.proofs.Ranges.{number_bound}
-use Rattle.std.specs.Prelude.{◌==◌, ◌&&◌, nat_lt, if◌then◌else◌}
-use Rattle.std.specs.Int.{bit_at}
+use Rattle.std.specs.Prelude.{◌==◌, ◌&&◌, if◌then◌else◌}
 use Rattle.std.proofs.lemmas.Bool.Decides.{nat_tests}
 use Rattle.pa_ctype.specs.Types.{TypeTree, Of, Void, Boolean, Integer, Pointer, Array, Struct, Function}
-use Rattle.pa_ctype.specs.Values.{CValue, Number}
-use Rattle.pa_integer.specs.Integers.{is_width, is_in_range, residue, of_bits, wrapped, is_zero}
+use Rattle.pa_ctype.specs.Values.{Number}
+use Rattle.pa_integer.specs.Integers.{is_width, is_in_range, residue, wrapped, is_zero}
 use Rattle.pa_num.specs.Arithmetic.{sub64, not64, wrap}
 use Rattle.pa_cmean.specs.Operations.{literal}
 use Rattle.pa_lir.specs.Values.{extended}

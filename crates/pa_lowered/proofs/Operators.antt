@@ -1,6 +1,6 @@
 -- Operators on one number (C11 6.5.3.3).
-use Rattle.std.proofs.Common.{◌≡◌, ℕ, zero, suc, ◌+◌, ◌^◌, ◌-◌, ◌<◌, ◌≤◌, ℤ, neg_ℤ, List, [], ◌∷◌, ◌++◌, length, refl, sym, ap, subst, ◌∙◌, arith, Option, Some, None, length-append, Bool, true, false, IsTrue}
-use Rattle.std.specs.Prelude.{slice_get, not, ◌&&◌, if◌then◌else◌, option_map, option_and_then}
+use Rattle.std.proofs.Common.{◌≡◌, ℕ, suc, ◌+◌, ◌<◌, ◌≤◌, ℤ, neg_ℤ, List, ◌∷◌, ◌++◌, length, refl, sym, ap, subst, ◌∙◌, arith, Option, Some, None, length-append, Bool, true, false, IsTrue}
+use Rattle.std.specs.Prelude.{slice_get, not, if◌then◌else◌, option_map, option_and_then}
 use Rattle.pa_ctype.specs.Types.{TypeTree, Of, Void, Boolean, Integer, Pointer, Array, Struct, Function}
 use Rattle.pa_ctype.specs.Values as value
 use Rattle.pa_ctype.specs.Values.{CValue}
@@ -8,13 +8,12 @@ use Rattle.pa_typed.specs.Typed.{TypedExpr, Unary}
 use Rattle.pa_typed.specs.declared.expr.UnaryOperation.{UnaryOperation}
 use Rattle.pa_typed.specs.declared.expr.UnaryOperation.TheVariants.{Minus, Complement, Not}
 use Rattle.pa_typed.specs.Units.{ProgramTree}
-use Rattle.pa_integer.specs.Integers.{is_width, is_in_range, residue, of_bits, wrapped, settled, negated, complemented}
+use Rattle.pa_integer.specs.Integers.{is_width, is_in_range, residue, of_bits, settled, negated, complemented}
 use Rattle.pa_cmean.specs.Results.{Meaning, given}
 use Rattle.pa_cmean.specs.Operations.{truth, unary, in_integer}
 use Rattle.pa_cmean.specs.State.{State, Cont, Again}
 use Rattle.pa_cmean.specs.ExprTypes.{type_of}
 use Rattle.pa_cmean.specs.Expressions.{eval}
-use Rattle.pa_lir.specs.declared.op.Op.{Op}
 use Rattle.pa_lir.specs.declared.op.Op.TheVariants as op
 use Rattle.pa_lir.specs.declared.op.BinOp.TheVariants.{Eq}
 use Rattle.pa_lir.specs.declared.op.UnOp.{UnOp}
@@ -22,23 +21,23 @@ use Rattle.pa_lir.specs.declared.op.UnOp.TheVariants as one
 use Rattle.pa_lir.specs.declared.function.Lir.{Lir}
 use Rattle.pa_lir.specs.Operators.{truth as flat_bit, of_number, unary as flat_unary}
 use Rattle.pa_lir.specs.Values as flat
-use Rattle.pa_lir.specs.Meaning.{Flat, Gives, act_of, gives, temp_in}
+use Rattle.pa_lir.specs.Meaning.{Flat, act_of, gives, temp_in}
 use Rattle.pa_lower.specs.Temporaries.{Room}
-use Rattle.pa_lower.specs.Operations.{unary_ops, not_ops, wrap_ops}
+use Rattle.pa_lower.specs.Operations.{unary_ops, wrap_ops}
 use Rattle.pa_lower.specs.Expressions.{expr_ops}
 use Rattle.pa_lowered.specs.Objects.{Map, Grows, IsOf, Stands}
 use Rattle.pa_lowered.specs.Results.{Follows}
-use Rattle.pa_lowered.specs.Calls.{Temps, Entered, at_place, At}
-use Rattle.pa_lowered.specs.Simulates.{Contains, IsIn, IsRoom, Keeps}
+use Rattle.pa_lowered.specs.Calls.{Temps, Entered, At}
+use Rattle.pa_lowered.specs.Simulates.{Contains, IsRoom, Keeps}
 use Rattle.pa_lowered.proofs.Containing.{contains_front, contains_behind, temp_given}
 use Rattle.pa_lowered.proofs.Following.{grows_same, undefined_follows, tick_follows, weaker}
 use Rattle.pa_lowered.proofs.Stepping.{gives_follows}
 use Rattle.pa_lowered.proofs.Standing.{IsVoid, has_value, keeps_same, keeps_value}
-use Rattle.pa_lowered.proofs.Numbers.{both_parts, both_true, wrapped_is_of, wrapped_same, extends_is, negative_is, turned_bits, turned_is, complement_is, turned_in_range}
-use Rattle.pa_lowered.proofs.Branching.{flat_truth, truth_is}
+use Rattle.pa_lowered.proofs.Numbers.{both_parts, both_true, wrapped_same, negative_is, turned_bits, turned_is, complement_is, turned_in_range}
+use Rattle.pa_lowered.proofs.Branching.{truth_is}
 use Rattle.pa_lowered.proofs.Testing.{HasTruth, is_zero, test_follows}
 use Rattle.pa_lowered.proofs.Converting.{extend_follows}
-use Rattle.pa_lowered.proofs.Evaluating.{with_left, SimExpr, TakesAt, takes_at, takes_grown, given_follows}
+use Rattle.pa_lowered.proofs.Evaluating.{with_left, SimExpr, TakesAt, takes_at, takes_grown}
 
 -- each bit turned, in the type
 complemented_is : (bits : ℕ) (signed : Bool) (z : ℤ) → IsTrue (is_width bits) → IsTrue (is_in_range bits signed z) → complemented bits signed z ≡ settled bits signed (turned_bits z)

@@ -1,12 +1,10 @@
 -- Whether a value is neither 0 nor null, and whether it is, as 1 or 0 (C11 6.3.1.2, 6.5.3.3p5, 6.5.13p3).
-use Rattle.std.proofs.Common.{◌≡◌, ℕ, zero, suc, ◌+◌, ◌<◌, ◌≤◌, List, [], ◌∷◌, ◌++◌, length, refl, sym, ap, subst, ◌∙◌, arith, Option, Some, None}
-use Rattle.std.specs.Prelude.{ℤ, pos, slice_get, ◌==◌, not, Bool, true, false}
+use Rattle.std.proofs.Common.{◌≡◌, ℕ, suc, ◌+◌, ◌<◌, ◌≤◌, List, [], ◌∷◌, refl, ap, ◌∙◌, arith, Some}
+use Rattle.std.specs.Prelude.{pos, ◌==◌, not, Bool, true, false}
 use Rattle.pa_ctype.specs.Types.{TypeTree}
-use Rattle.pa_ctype.specs.Values.{CValue}
 use Rattle.pa_typed.specs.Units.{ProgramTree}
 use Rattle.pa_cmean.specs.Operations.{of_truth}
 use Rattle.pa_cmean.specs.State.{State, Cont, Again}
-use Rattle.pa_lir.specs.declared.op.Op.{Op}
 use Rattle.pa_lir.specs.declared.op.Op.TheVariants as op
 use Rattle.pa_lir.specs.declared.op.BinOp.{BinOp}
 use Rattle.pa_lir.specs.declared.op.BinOp.TheVariants.{Eq, Ne}
@@ -18,7 +16,7 @@ use Rattle.pa_lir.specs.Meaning.{Flat, act_of, gives, on_two, temp_in}
 use Rattle.pa_lower.specs.Temporaries.{Room}
 use Rattle.pa_lowered.specs.Objects.{Map, Grows, IsOf, Stands}
 use Rattle.pa_lowered.specs.Results.{Follows}
-use Rattle.pa_lowered.specs.Calls.{Temps, Entered, at_place, At}
+use Rattle.pa_lowered.specs.Calls.{Temps, Entered, At}
 use Rattle.pa_lowered.specs.Simulates.{Contains, IsRoom, Keeps}
 use Rattle.pa_lowered.proofs.Containing.{temp_given, temp_other}
 use Rattle.pa_lowered.proofs.Stepping.{gives_follows}

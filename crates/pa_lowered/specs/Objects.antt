@@ -1,5 +1,5 @@
 -- How values and objects of C's meaning stand to those of flat code (C11 6.2.6, 6.2.4).
-use Rattle.std.specs.Prelude.{◌≡◌, ◌≤◌, ◌<◌, ℕ, ◌+◌, ℤ, true, false, ◌&&◌, IsTrue, All, List, [], ◌∷◌, length, take, drop, slice_get, Option, Some, None}
+use Rattle.std.specs.Prelude.{◌≡◌, ◌<◌, ℕ, ℤ, true, false, ◌&&◌, IsTrue, List, [], ◌∷◌, length, slice_get, Option, Some, None}
 use Rattle.pa_ctype.specs.Types.{TypeTree, Of, Boolean, Integer}
 use Rattle.pa_ctype.specs.Values as value
 use Rattle.pa_ctype.specs.Values.{Local, Place, CValue, Cell, object_of}
