@@ -1,6 +1,6 @@
 //! Calls by hand.
 
-ghost use Rattle.std.specs.Prelude.{◌<◌, ◌^◌, length, IfSome};
+ghost use Rattle.std.specs.Prelude.{◌<◌, ◌^◌, length, IfOk, IfSome};
 
 use crate::{Arguments, called_function};
 use pa_convert::{integer, pointer_to};
@@ -49,6 +49,7 @@ struct RowTypes {
 /// `const int (int, int *)`.
 fn row_types(types: &mut Types) -> Result<RowTypes, Memory>
     requires { length types.old.structs < 2 ^ 32 }
+    ensures { IfOk result (λ n. n.no_parameter < length types.new.nodes) }
 {
     let id = types.declare()?;
     let structure = types.put(Node::Struct { id })?;
@@ -96,19 +97,37 @@ struct Row {
     wanted: Result<u32, TypeRule>,
 }
 
-/// What a call answers. None: any other answer.
-fn answer(alloc: Global, types: &mut Types, row: &Row) -> Option<Result<u32, TypeRule>> {
-    let function = value_of(types, row.function)?;
-    let [first, second, third] = row.arguments;
-    let arguments = Arguments::new(alloc, row.function);
-    let arguments = passed(alloc, types, arguments, first)?;
-    let arguments = passed(alloc, types, arguments, second)?;
-    let arguments = passed(alloc, types, arguments, third)?;
-    match arguments.called(alloc, types, PLACE, false, function.tree) {
+/// The arguments of these types for a function. None: there is no such type, or memory is wanting.
+fn passed_all(
+    alloc: Global,
+    types: &mut Types,
+    function: u32,
+    arguments: [Option<u32>; 3],
+) -> Option<Arguments>
+    requires { function < length types.old.nodes }
+    ensures { IfSome result (λ a. a.left < length types.new.nodes) }
+{
+    let [first, second, third] = arguments;
+    let none = Arguments::new(alloc, function);
+    let one = passed(alloc, types, none, first)?;
+    let two = passed(alloc, types, one, second)?;
+    passed(alloc, types, two, third)
+}
+
+/// The type of the call, or the rule that it breaks. None: any other answer.
+fn outcome(called: Result<TypedForm, Fault<TypeRule>>) -> Option<Result<u32, TypeRule>> {
+    match called {
         Ok(form) if form.category == Category::Value => Some(Ok(form.of)),
         Err(Fault::Refused { rule, place: PLACE }) => Some(Err(rule)),
         Ok(_) | Err(Fault::Refused { .. } | Fault::Memory) => None,
     }
+}
+
+/// What a call answers. None: any other answer.
+fn answer(alloc: Global, types: &mut Types, row: &Row) -> Option<Result<u32, TypeRule>> {
+    let function = value_of(types, row.function)?;
+    let arguments = passed_all(alloc, types, function.of, row.arguments)?;
+    outcome(arguments.called(alloc, types, PLACE, false, function.tree))
 }
 
 #[test]
