@@ -1,5 +1,5 @@
 -- A file's numbers stand for its names and types, so its parts in the program are those of the definition.
-use Rattle.std.proofs.Common.{◌≡◌, ℕ, zero, suc, ◌<◌, ◌≤◌, ◌+◌, false, Bool, true, List, [], ◌∷◌, ◌++◌, length, map, Option, Some, None, refl, sym, ap, ◌∙◌, arith, ⊎_elim}
+use Rattle.std.proofs.Common.{◌≡◌, ℕ, zero, suc, ◌<◌, ◌≤◌, ◌+◌, false, Bool, true, List, [], ◌∷◌, ◌++◌, length, map, Option, Some, None, refl, sym, ap, subst, ◌∙◌, arith, ⊎_elim}
 use Rattle.std.specs.Prelude.{slice_get, unwrap_or, get_or, filter_map, codes, decimal, if◌then◌else◌}
 use Rattle.std.specs.List.{list_any, cons_option}
 use Rattle.std.specs.Str.{bytes_eq}
@@ -9,18 +9,20 @@ use Rattle.std.proofs.lemmas.Option.{slice_get-get_or, slice_get_past}
 use Rattle.pa_ctype.specs.declared.ctype.Held.{Held}
 use Rattle.pa_ctype.specs.declared.node.Node.{Node}
 use Rattle.pa_ctype.specs.Types.{TypeTree, Of, Void}
-use Rattle.pa_ctype.specs.Nodes.{at, tree, grown, trees}
+use Rattle.pa_ctype.specs.Nodes.{at, tree, grown, trees, AllBelow}
 use Rattle.pa_ctype.specs.Layouts.{fields_of, table_of}
 use Rattle.pa_ctype.specs.Raised.{raised, raised_form}
 use Rattle.pa_ctype.specs.Joined.{AreRaised, names_by}
+use Rattle.pa_typed.specs.declared.unit.CGlobal.{CGlobal}
 use Rattle.pa_typed.specs.declared.unit.Declared.{Declared}
+use Rattle.pa_typed.specs.declared.unit.Function.{Function}
 use Rattle.pa_typed.specs.declared.unit.Unit.{Unit as CUnit}
 use Rattle.pa_typed.specs.Units.{declared_tree, name_in}
 use Rattle.pa_link.specs.declared.names.FileNames.{FileNames}
 use Rattle.pa_link.specs.declared.numbering.Numbering.{Numbering}
 use Rattle.pa_link.specs.declared.parts.Part.{Part as CPart}
 use Rattle.pa_link.specs.Agreeing.{Agrees}
-use Rattle.pa_link.specs.Linked.{unit_of, part_tree}
+use Rattle.pa_link.specs.Linked.{unit_of, part_tree, IsKnownPart}
 use Rattle.pa_link.specs.Moved.{Move, moved_name, moved_type}
 use Rattle.pa_link.specs.NameNumbers.{AreNumbersOf}
 use Rattle.pa_link.specs.Names.{internal_text, linkage_name, linkage_names}
@@ -120,3 +122,35 @@ module _ (a b : ℕ → List ℕ) (m : ℕ → TypeTree) (same : (i : ℕ) → a
 pub structs_by : (all own : List (List ℕ)) (plain : List ℕ) (m : ℕ → TypeTree) (bodies : List (Option (List Held))) → name_in all 0 ≡ [] → map (name_in all) plain ≡ own
     → table_of (names_by (name_in all) plain) m bodies ≡ table_of (name_in own) m bodies
 structs_by all own plain m bodies none e = table-same (names_by (name_in all) plain) (name_in own) m (names-by all own plain none e) bodies
+
+-- ---- numbers of a file's parts
+
+below-at : (k : ℕ) (is : List ℕ) (i : ℕ) → AllBelow k is → i < length is → get_or is i 0 < k
+below-at k [] i h l = let no : ⊥ = omega (arith, l) in absurd no
+below-at k (j ∷ is) zero h l = h.0
+below-at k (j ∷ is) (suc i) h l = below-at k is i h.1 (omega (arith, l))
+
+-- the number at a place, or another, is below where all are
+number-below : (k : ℕ) (is : List ℕ) (last i : ℕ) → AllBelow k is → last < k → unwrap_or (slice_get is i) last < k
+number-below k is last i h l = ⊎_elim
+    (λ within. subst (λ o. unwrap_or o last < k) (sym (slice_get-get_or is i 0 within)) (below-at k is i h within))
+    (λ past. subst (λ o. unwrap_or o last < k) (sym (slice_get_past is i past)) l)
+    (cases_lt i (length is))
+
+below-map : {X Y : Type 0} (k : ℕ) (of : Y → ℕ) (f : X → Y) → ((x : X) → of (f x) < k) → (xs : List X) → AllBelow k (map of (map f xs))
+below-map k of f each [] = tt
+below-map k of f each (x ∷ xs) = (each x, below-map k of f each xs)
+
+pub part_known : (u : CUnit) (n : Numbering) (names types : ℕ) (p : CPart) → AllBelow names n.names → n.unnamed < names → AllBelow types n.types → n.void < types
+    → p.functions ≡ map (numbered_function n) u.functions → p.globals ≡ map (numbered_global n) u.globals → p.declared ≡ map (numbered_declared n) u.declared
+    → IsKnownPart names types p
+part_known u n names types p names_known unnamed_known types_known void_known fs gs ds =
+    let name = λ (i : ℕ). number-below names n.names n.unnamed i names_known unnamed_known in
+    let of = λ (i : ℕ). number-below types n.types n.void i types_known void_known in
+    record {
+      function_names = rw fs (below-map names (λ (f : Function). f.name) (numbered_function n) (λ f. name f.name) u.functions);
+      function_types = rw fs (below-map types (λ (f : Function). f.of) (numbered_function n) (λ f. of f.of) u.functions);
+      global_names = rw gs (below-map names (λ (g : CGlobal). g.name) (numbered_global n) (λ g. name g.name) u.globals);
+      declared_names = rw ds (below-map names (λ (d : Declared). d.name) (numbered_declared n) (λ d. name d.name) u.declared);
+      declared_types = rw ds (below-map types (λ (d : Declared). d.of) (numbered_declared n) (λ d. of d.of) u.declared);
+    }

@@ -11,6 +11,8 @@ use Rattle.pa_ctype.specs.Nodes.{at, Fits}
 use Rattle.pa_ctype.specs.Layouts.{Table, fields_of, table_of}
 use Rattle.pa_ctype.specs.Raised.{followed, raised_body}
 use Rattle.pa_ctype.specs.Tables.{TypeTable, ForTypes}
+use Rattle.pa_typed.specs.declared.unit.Declared.{Declared}
+use Rattle.pa_typed.specs.declared.unit.Function.{Function}
 use Rattle.pa_typed.specs.declared.unit.Unit.{Unit as CUnit}
 use Rattle.pa_typed.specs.Units.{UnitTree, name_in}
 use Rattle.pa_link.specs.declared.linked.LinkedFile.{LinkedFile}
@@ -18,10 +20,11 @@ use Rattle.pa_link.specs.declared.names.FileNames.{FileNames}
 use Rattle.pa_link.specs.declared.parts.Part.{Part as CPart}
 use Rattle.pa_link.specs.declared.linked.FirstTypes.{FirstTypes}
 use Rattle.pa_link.specs.declared.linked.Linked.{Linked}
-use Rattle.pa_link.specs.Linked.{unit_of, part_tree, part_trees, AreFirstOf, IsVoid, IsLinked, AreLinked}
+use Rattle.pa_link.specs.Linked.{unit_of, part_tree, part_trees, AreFirstOf, IsVoid, IsLinked, AreLinked, IsKnownPart, AreKnownParts}
 use Rattle.pa_link.specs.Names.{linkage_names}
 use Rattle.pa_link.specs.NameNumbers.{AreNumbersOf, AreNamesOfProgram}
 use Rattle.pa_link.specs.Program.{part_of, move_of, parts_from, structs_from}
+use Rattle.pa_link.proofs.NameNumbers.{below_more}
 
 -- another type for each number behind the table's
 abbrev other : Bool → List Node → ℕ → TypeTree
@@ -31,7 +34,11 @@ other-fits : (c : Bool) (ns : List Node) → Fits (other c ns) ns
 other-fits c ns = record { by = λ i h. let within : nat_lt i (length ns) ≡ true = lt-ltb i (length ns) h in rw within refl }
 
 -- a table that only grows is longer
-longer : (old new : List Node) → ((m : ℕ → TypeTree) → Fits m new → Fits m old) → length old ≤ length new
+pub lt-le : {a b c : ℕ} → a < b → b ≤ c → a < c
+lt-le h k = omega (arith, h, k)
+
+-- a table that only grows is longer
+pub longer : (old new : List Node) → ((m : ℕ → TypeTree) → Fits m new → Fits m old) → length old ≤ length new
 longer old new grows = ⊎_elim (λ l. absurd (no l)) (λ le. le) (cases_lt (length new) (length old))
   where
     behind : (c : Bool) → other c new (length new) ≡ Of c Void
@@ -107,6 +114,20 @@ first_grown old t u f made first linked are =
     let more = longer old.nodes made.types.nodes linked.grows in
     record { void = omega (arith, more, are.void); unary = omega (arith, more, are.unary); nullary = omega (arith, more, are.nullary); are = λ m fits. are.are m (linked.grows m fits) }
 
+part_more : (names old new : ℕ) (p : CPart) → old ≤ new → IsKnownPart names old p → IsKnownPart names new p
+part_more names old new p le h = record {
+  function_names = h.function_names;
+  function_types = below_more old new le (map (λ (f : Function). f.of) p.functions) h.function_types;
+  global_names = h.global_names;
+  declared_names = h.declared_names;
+  declared_types = below_more old new le (map (λ (d : Declared). d.of) p.declared) h.declared_types;
+}
+
+-- one part more, over more types
+pub known_more : (names old new : ℕ) (ps : List CPart) (p : CPart) → old ≤ new → AreKnownParts names old ps → IsKnownPart names new p → AreKnownParts names new (ps ++ p ∷ [])
+known_more names old new [] p le h k = (k, tt)
+known_more names old new (q ∷ ps) p le h k = (part_more names old new q le h.0, known_more names old new ps p le h.1 k)
+
 pub void_known : (types : TypeTable) (first : FirstTypes) → AreFirstOf types first → IsVoid types first.void
 void_known types first are = record { known = are.void; is = λ m fits. (are.are m fits).void }
 
@@ -126,13 +147,14 @@ unfolding structs_from
 no-structs table = refl
 
 pub all_linked : (names : List (List ℕ)) (units : List CUnit) (index : ℕ) (texts : ℕ) (made : Linked) → length units ≤ index → AreSoFar names units index made.types texts made.parts
-    → AreFirstOf made.types made.first_types → AreLinked names units made
-all_linked names units index texts made behind so_far first = record {
+    → AreKnownParts (length names) (length made.types.nodes) made.parts → AreFirstOf made.types made.first_types → AreLinked names units made
+all_linked names units index texts made behind so_far known first = record {
   files = λ m fits.
       sym (append-nil (part_trees names m 1 made.parts)) ∙ ap (λ l. part_trees names m 1 made.parts ++ l) (sym (no-parts (suc index) (length made.types.structs) texts))
       ∙ ap (λ us. part_trees names m 1 made.parts ++ parts_from (suc index) (length made.types.structs) texts (map unit_of us)) (sym none) ∙ so_far.parts m fits;
   structs = λ m fits.
       sym (no-structs (table_of (name_in names) m made.types.structs)) ∙ ap (λ us. structs_from (table_of (name_in names) m made.types.structs) (map unit_of us)) (sym none) ∙ so_far.structs m fits;
+  known = known;
   first = first;
 }
   where

@@ -1,5 +1,6 @@
 pub mod Agreeing
 pub mod Declaring
+pub mod Definitions
 pub mod Limits
 pub mod Linked
 pub mod Missing
@@ -8,4 +9,6 @@ pub mod NameNumbers
 pub mod Names
 pub mod Numbering
 pub mod Program
+pub mod UseFault
 pub mod Uses
+pub mod Whole

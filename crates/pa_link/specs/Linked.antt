@@ -1,10 +1,13 @@
 -- Files as they stand in the program.
 use Rattle.std.specs.Prelude.{◌≡◌, ◌<◌, ℕ, suc, false, List, [], ◌∷◌, length, map, slice_get, Some}
 use Rattle.pa_ctype.specs.Types.{TypeTree, Of, Void, Function, Nil, Cons}
-use Rattle.pa_ctype.specs.Nodes.{at, Fits}
+use Rattle.pa_ctype.specs.Nodes.{at, Fits, AllBelow}
 use Rattle.pa_ctype.specs.Layouts.{table_of}
 use Rattle.pa_ctype.specs.Raised.{followed}
 use Rattle.pa_ctype.specs.Tables.{TypeTable, ForTypes}
+use Rattle.pa_typed.specs.declared.unit.CGlobal.{CGlobal}
+use Rattle.pa_typed.specs.declared.unit.Declared.{Declared}
+use Rattle.pa_typed.specs.declared.unit.Function.{Function as CFunction}
 use Rattle.pa_typed.specs.declared.unit.Unit.{Unit as CUnit}
 use Rattle.pa_typed.specs.Units.{UnitTree, function_tree, global_tree, declared_tree, name_in, unit_tree}
 use Rattle.pa_cmean.specs.Calls.{int}
@@ -36,6 +39,18 @@ module _ (names : List (List ℕ)) (m : ℕ → TypeTree) where
   part_trees file [] = []
   part_trees file (p ∷ ps) = part_tree file p ∷ part_trees (suc file) ps
 
+-- numbers of names and types are below these
+pub record IsKnownPart (names types : ℕ) (p : CPart) : Type 0 where
+  pub function_names : AllBelow names (map (λ (f : CFunction). f.name) p.functions)
+  pub function_types : AllBelow types (map (λ (f : CFunction). f.of) p.functions)
+  pub global_names : AllBelow names (map (λ (g : CGlobal). g.name) p.globals)
+  pub declared_names : AllBelow names (map (λ (d : Declared). d.name) p.declared)
+  pub declared_types : AllBelow types (map (λ (d : Declared). d.of) p.declared)
+
+abbrev pub AreKnownParts : ℕ → ℕ → List CPart → Type 0
+AreKnownParts names types [] = Unit {0}
+AreKnownParts names types (p ∷ ps) = IsKnownPart names types p × AreKnownParts names types ps
+
 -- the types that each program has
 pub record AreFirst (m : ℕ → TypeTree) (first : FirstTypes) : Type 0 where
   pub void : m first.void ≡ Of false Void
@@ -59,6 +74,8 @@ pub record IsLinked (old : TypeTable) (texts : ℕ) (u : CUnit) (f : FileNames) 
       → part_tree names m file made.part ≡ part_of (move_of file (length old.structs) texts (unit_of u)) (unit_of u))
   pub structs : ForTypes made.types (λ m. (names : List (List ℕ)) → name_in names 0 ≡ [] → map (name_in names) f.plain ≡ u.names
       → table_of (name_in names) m made.types.structs ≡ followed (table_of (name_in names) m old.structs) (unit_of u).structs)
+  pub known : (names : List (List ℕ)) (file : ℕ) → AreNumbersOf names u.names (linkage_names file u.names u.declared) f
+      → IsKnownPart (length names) (length made.types.nodes) made.part
   pub grows : ForTypes made.types (λ m. Fits m old.nodes)
   pub names : made.types.names ≡ old.names
 
@@ -70,4 +87,5 @@ AreNamed units = (i : ℕ) (u : CUnit) → slice_get units i ≡ Some u → u.ty
 pub record AreLinked (names : List (List ℕ)) (units : List CUnit) (made : Linked) : Type 0 where
   pub files : ForTypes made.types (λ m. part_trees names m 1 made.parts ≡ parts (map unit_of units))
   pub structs : ForTypes made.types (λ m. table_of (name_in names) m made.types.structs ≡ structs_from [] (map unit_of units))
+  pub known : AreKnownParts (length names) (length made.types.nodes) made.parts
   pub first : AreFirstOf made.types made.first_types

@@ -12,5 +12,7 @@ mod numbered_stmt;
 mod numbering;
 mod parts;
 mod rule;
+mod uses;
+mod whole;
 
 pub use rule::{JoinFault, LinkFault, LinkRule};

@@ -4,7 +4,8 @@ use Rattle.pa_ctype.specs.Layouts.{table_of}
 use Rattle.pa_ctype.specs.Raised.{followed}
 use Rattle.pa_typed.specs.Units.{name_in}
 use Rattle.pa_link.specs.declared.numbering.Numbering.{Numbering}
-use Rattle.pa_link.proofs.LinkedFiles.{part_is, structs_by}
+use Rattle.pa_link.proofs.LinkedFiles.{part_is, part_known, structs_by}
+use Rattle.pa_link.proofs.LinkedSteps.{longer, lt-le}
 use Rattle.pa_link.proofs.linked.linked_file.Goals as goal
 
 pub returns : goal.returns
@@ -25,6 +26,10 @@ returns c =
       structs = λ m fits names empty plain.
           followed_is (name_in names) m (at u.types.nodes) fits fits_at
           ∙ ap (followed (table_of (name_in names) m old.structs)) (structs_by names u.names f.plain (at u.types.nodes) u.types.structs empty plain);
+      known = λ names file are.
+          part_known u n (length names) (length joined.types.nodes) made (rw names_are are.linkage_known) are.unnamed_known c.in_ok-types.ensures.known
+          (lt-le c.requires.void.known (longer old.nodes joined.types.nodes c.in_ok-types.ensures.grows))
+          c.in_ok-part_of.ensures.functions c.in_ok-part_of.ensures.globals c.in_ok-part_of.ensures.declared;
       grows = c.in_ok-types.ensures.grows;
       names = c.in_ok-types.ensures.names;
     }

@@ -1,11 +1,12 @@
-use Rattle.std.proofs.Common.{◌≡◌, ◌<◌, ◌+◌, subst, sym, ap, ◌∙◌, length, arith}
+use Rattle.std.proofs.Common.{◌≡◌, ◌<◌, ◌+◌, suc, subst, sym, ap, ◌∙◌, length, arith}
 use Rattle.std.proofs.lemmas.Grind.{common_steps}
 use Rattle.std.proofs.lemmas.List.{length-map}
 use Rattle.pa_ctype.specs.Nodes.{AllBelow}
 use Rattle.pa_typed.specs.declared.unit.Unit.{Unit as CUnit}
 use Rattle.pa_typed.specs.Units.{name_in}
+use Rattle.pa_link.specs.Linked.{AreKnownParts}
 use Rattle.pa_link.proofs.NameNumbers.{element}
-use Rattle.pa_link.proofs.LinkedSteps.{AreSoFar, all_linked, first_grown, no_name, so_far_more}
+use Rattle.pa_link.proofs.LinkedSteps.{AreSoFar, all_linked, first_grown, known_more, longer, no_name, so_far_more}
 use Rattle.pa_link.proofs.linked.linked_files.Goals as goal
 
 pub linked_file-requires-clause-names : goal.linked_file-requires-clause-names
@@ -45,6 +46,7 @@ units-preserved c =
       within = omega (arith, c.units-test.true);
       count = grind (arith, common_steps, c.in_ok-push.ensures.ok, c.units.invariant.count);
       names = c.in_ok-made.ensures.names ∙ c.units.invariant.names;
+      known = subst (AreKnownParts (length names) (length made.types.nodes)) (sym c.in_ok-push.ensures.ok) (known_more (length names) (length c.units.types.nodes) (length made.types.nodes) c.units.parts made.part (longer c.units.types.nodes made.types.nodes c.in_ok-made.ensures.grows) c.units.invariant.known (c.in_ok-made.ensures.known names (suc c.units.index) are));
       first = first_grown c.units.types c.units.texts u f made c.in_ok-first_types.first_types c.in_ok-made.ensures c.units.invariant.first;
       so_far = subst (λ t. AreSoFar names units (c.units.index + 1) made.types t c.push.new.self) (sym texts)
           (subst (AreSoFar names units (c.units.index + 1) made.types (c.units.texts + length u.texts)) (sym c.in_ok-push.ensures.ok) more);
@@ -53,4 +55,4 @@ units-preserved c =
 pub returns : goal.returns
 returns c =
     all_linked c.args.names.now.names c.args.units.now c.units.index c.units.texts (record { types = c.units.types; first_types = c.in_ok-first_types.first_types; parts = c.units.parts })
-    c.units-test.false c.units.invariant.so_far c.units.invariant.first
+    c.units-test.false c.units.invariant.so_far c.units.invariant.known c.units.invariant.first
