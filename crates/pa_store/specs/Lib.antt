@@ -1,4 +1,5 @@
 pub mod Found
+pub mod Objects
 pub mod Operands
 pub mod Pointers
 pub mod Views
