@@ -2,11 +2,15 @@
 #![tactic(auto)]
 
 mod finding;
+mod objects;
 mod operations;
 mod pointers;
+mod store;
 mod value;
 
 pub use finding::{Scalar, find_cell};
+pub use objects::Object;
 pub use operations::{binary, converted, of_truth, truth, unary};
 pub use pointers::{difference, is_same_owner, ordered, place_of};
+pub use store::Objects;
 pub use value::{Owner, Place, Value};
