@@ -1,3 +1,4 @@
+pub mod Forms
 pub mod Computing
 pub mod Held
 pub mod HeldInAll

@@ -73,3 +73,18 @@ unfoldable mutual
   pub exprs_ops : ℕ → Room → TypedExprs → List Op
   exprs_ops n r NoTExprs = []
   exprs_ops n r (ConsTExpr e es) = expr_ops n r e ++ exprs_ops (n + expr_labels e) (next_room r) es
+
+-- ---- parts of these, by name
+
+-- two values, the second one into the first free temporary
+abbrev pub operands_ops : ℕ → Room → (left right : TypedExpr) → List Op
+operands_ops n r left right = expr_ops n r left ++ expr_ops (n + expr_labels left) (next_room r) right
+
+abbrev pub store_ops : ℕ → Room → (to value : TypedExpr) → Bool → List Op
+store_ops n r to value old = expr_ops n (place_room r) to ++ (expr_ops (n + expr_labels to) (stored_room old r) value ++ stored_ops old to r)
+
+abbrev pub and_ops : ℕ → Room → (left right : TypedExpr) → List Op
+and_ops n r left right = expr_ops n r left ++ either_ops (n + expr_labels left) r.to (op.Const r.to 0 ∷ []) (expr_ops (n + expr_labels left + 2) r right ++ truth_ops r.to r.free)
+
+abbrev pub or_ops : ℕ → Room → (left right : TypedExpr) → List Op
+or_ops n r left right = expr_ops n r left ++ either_ops (n + expr_labels left) r.to (expr_ops (n + expr_labels left + 2) r right ++ truth_ops r.to r.free) (op.Const r.to 1 ∷ [])

@@ -6,6 +6,7 @@ use Rattle.pa_typed.specs.Typed.{TypedExpr, TypedGiven, GivenValue, GivenText, T
 use Rattle.pa_lir.specs.declared.op.Op.{Op}
 use Rattle.pa_lir.specs.declared.op.Op.TheVariants as op
 use Rattle.pa_lir.specs.declared.op.BinOp.TheVariants as flat
+use Rattle.pa_lower.specs.declared.ways.Ways as ways
 use Rattle.pa_lower.specs.Temporaries.{whole_room}
 use Rattle.pa_lower.specs.Operations.{store_op}
 use Rattle.pa_lower.specs.Expressions.{expr_labels, expr_ops, either_ops}
@@ -66,9 +67,8 @@ start_ops n (Evaluates value) = maybe_ops n value
 -- ---- ways out
 
 -- the labels to which `break` and `continue` go; none outside of a switch or loop, where the meaning is undefined
-pub record Ways : Type 0 where
-  pub leave : Option ℕ
-  pub proceed : Option ℕ
+abbrev pub Ways : Type 0
+Ways = ways.Ways
 
 abbrev pub jump_ops : Option ℕ → List Op
 jump_ops None = []
@@ -223,3 +223,26 @@ unfoldable mutual
   pub items_ops : (n c : ℕ) → Ways → TypedStmts → List Op
   items_ops n c w NoTStmts = []
   items_ops n c w (ConsTStmt s ss) = case_labels c (stmt_cases s) ++ (stmt_ops n w s ++ items_ops (n + stmt_labels s) (c + stmt_cases s) w ss)
+
+-- ---- parts of these, by name
+
+-- the statements of a block; a statement of another form is none
+abbrev pub items_of : TypedStmt → TypedStmts
+items_of (Compound items) = items
+items_of _ = NoTStmts
+
+abbrev pub while_ops : ℕ → TypedExpr → TypedStmt → List Op
+while_ops n test body = op.Label n ∷ (whole_ops (n + 3) test ++ (branch_ops (n + 1) (n + 2) ++ (stmt_ops (n + 3 + expr_labels test) (loop_ways (n + 2) n) body ++ (op.Jump n ∷ op.Label (n + 2) ∷ []))))
+
+abbrev pub do_while_ops : ℕ → TypedStmt → TypedExpr → List Op
+do_while_ops n body test = op.Jump n ∷ op.Label n ∷ (stmt_ops (n + 3) (loop_ways (n + 2) (n + 1)) body ++ (op.Label (n + 1) ∷ (whole_ops (n + 3 + stmt_labels body) test ++ (op.Branch 0 n ∷ op.Label (n + 2) ∷ []))))
+
+abbrev pub for_ops : ℕ → TypedForStart → (test step : Option TypedExpr) → TypedStmt → List Op
+for_ops n start test step body = start_ops (n + 4) start ++ (enter_ops test n ++ (turn_ops (n + 4 + start_labels start) test (n + 1) (n + 2) ++ (stmt_ops (n + 4 + start_labels start + maybe_labels test) (loop_ways (n + 2) (n + 3)) body ++ (op.Label (n + 3) ∷ (maybe_ops (n + 4 + start_labels start + maybe_labels test + stmt_labels body) step ++ (op.Jump n ∷ op.Label (n + 2) ∷ []))))))
+
+-- of a switch with these statements
+abbrev pub switch_labels : TypedExpr → TypedStmts → ℕ
+switch_labels value items = expr_labels value + (1 + (item_cases items + stmts_labels items))
+
+abbrev pub switch_ops : ℕ → Ways → TypedExpr → TypedStmts → List Op
+switch_ops n w value items = whole_ops n value ++ (item_tests (n + expr_labels value + 1) items ++ (op.Jump (unwrap_or (item_default (n + expr_labels value + 1) items) (n + expr_labels value)) ∷ (items_ops (n + expr_labels value + 1 + item_cases items) (n + expr_labels value + 1) (switch_ways (n + expr_labels value) w) items ++ op.Label (n + expr_labels value) ∷ [])))

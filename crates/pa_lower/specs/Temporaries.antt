@@ -1,13 +1,11 @@
 -- The temporaries that the flat code of an expression may use.
 use Rattle.std.specs.Prelude.{ℕ, suc, Option, Some, None, unwrap_or}
+use Rattle.pa_lower.specs.declared.room.Room as room
 
 -- Where the value of the expression goes; the first number from which on all are free; one more free one below that, if there is
 -- one; and the one that has the place of the innermost store around the expression.
-pub record Room : Type 0 where
-  pub to : ℕ
-  pub free : ℕ
-  pub spare : Option ℕ
-  pub same : Option ℕ
+abbrev pub Room : Type 0
+Room = room.Room
 
 -- of a part that is evaluated while the value of the one before waits
 abbrev pub next_room : Room → Room
