@@ -56,6 +56,9 @@ is_integer_too a b is e = same_integer (λ a b. IsTrue (is_integer b)) (λ k l. 
 of_same : (a b : TypeTree) (z : ℤ) → IsTrue (is_integer a) → same_but_const a b ≡ true → IsOf a z → IsOf b z
 of_same a b z is e = same_integer (λ a b. IsOf a z → IsOf b z) (λ k l h. h) (λ k l signed bits h. h) a b is e
 
+pub of_same_back : (a b : TypeTree) (z : ℤ) → IsTrue (is_integer a) → same_but_const a b ≡ true → IsOf b z → IsOf a z
+of_same_back a b z is e = same_integer (λ a b. IsOf b z → IsOf a z) (λ k l h. h) (λ k l signed bits h. h) a b is e
+
 pub no_address : (of : TypeTree) → IsTrue (is_integer of) → IsAddress of → ⊥
 no_address (Of k Void) is h = h
 no_address (Of k Boolean) is h = h
