@@ -36,9 +36,9 @@ flat_truth (flat.Code name schema) = true
 
 pub truth_is : (m : Map) (of : TypeTree) (v : CValue) (u : FlatValue) → Stands m of v u → flat_truth u ≡ truth v
 truth_is m of (value.Number z) u h = ap flat_truth h.1 ∙ ap not (zero_is of z h.0)
-truth_is m of (value.At place) u h = ap flat_truth h.is
-truth_is m of (value.Code name) u h = ap flat_truth h
-truth_is m of value.Null u h = ap flat_truth h
+truth_is m of (value.At place) u h = ap flat_truth h.1.is
+truth_is m of (value.Code name) u h = ap flat_truth h.1
+truth_is m of value.Null u h = ap flat_truth h.1
 
 branches_on : (o : Open) (label : ℕ) (u : FlatValue) → flat_truth u ≡ true → branches o label u ≡ option_map Goes (place_of_label o.function.ops label)
 branches_on o label (flat.Number zero) h = cc

@@ -20,7 +20,7 @@ use Rattle.pa_lower.specs.Expressions.{expr_ops}
 use Rattle.pa_lowered.specs.Objects.{Map, IsOf, Stands}
 use Rattle.pa_lowered.specs.Calls.{Temps, Entered, At, local_at}
 use Rattle.pa_lowered.specs.Results.{Follows}
-use Rattle.pa_lowered.specs.Simulates.{Contains, IsRoom, HasSame, spare_cost}
+use Rattle.pa_lowered.specs.Simulates.{address_type, Contains, IsRoom, HasSame, spare_cost}
 use Rattle.pa_lower.specs.Temporaries.{Room}
 use Rattle.pa_lower.specs.Operations.{same_ops}
 use Rattle.pa_lir.specs.declared.op.BinOp.TheVariants.{Add as op_add}
@@ -68,9 +68,9 @@ module _ (program : ProgramTree) (lir : Lir) (again : Again) (bound : ℕ) (w : 
         given_follows lir m (c + 64) l (owner_of st.world local) (λ owner. go (value.At (start owner)) (record st { left = j })) s (λ owner e.
         let here = a.sees.lives local owner e in
         let below : local < length w.function.locals = (let b = within st.world.here.owners local owner e in let o = a.sees.owners in let q = a.sees.count in omega arith) in
-        value_follows program lir again bound w live at (at + 1) (c + 64) d l r of ts ts m m go (value.At (start owner)) (flat.At (local_at w local) 0) (record st { left = j }) s (op.Local r.to local) lt (grows_same m) (with_left w live at j ts m st s a) (keeps_same r ts) code.0
+        value_follows program lir again bound w live at (at + 1) (c + 64) d l r (address_type of) ts ts m m go (value.At (start owner)) (flat.At (local_at w local) 0) (record st { left = j }) s (op.Local r.to local) lt (grows_same m) (with_left w live at j ts m st s a) (keeps_same r ts) code.0
         (ap (λ b. gives r.to (if b then Some (flat.At (local_at w local) 0) else None)) (is_below local (length w.function.locals) below)) (omega arith)
-        (record { number = here.0; within = local_at w local; owner = here.1; first = refl; lies = here.2; is = refl }) (omega arith) t));
+        (tt, record { number = here.0; within = local_at w local; owner = here.1; first = refl; lies = here.2; is = refl }) (omega arith) t));
   }
 
   -- the place of the store around the expression
@@ -81,18 +81,18 @@ module _ (program : ProgramTree) (lir : Lir) (again : Again) (bound : ℕ) (w : 
         tick_follows lir m c l bound st s _ a.ended le (λ j lt. at_place_of same n r at c d l go ts m (record st { left = j }) s room cheap code t lt (with_left w live at j ts m st s a) around);
   }
     where
-      at_place_of : (same : Option Place) (n : ℕ) (r : Room) (at c d l : ℕ) (go : Cont) (ts : Temps) (m : Map) (st : State) (s : Flat) → IsRoom r → d ≤ c + spare_cost → Contains w.function.ops at (same_ops r.same r.to) → TakesAt program lir again bound w live (at + length (same_ops r.same r.to)) r of ts m d l go → st.left < bound → At w live at ts m st s → HasSame m same r ts → Follows lir m (c + 64) l (given same (λ place. go (value.At place) st)) s
+      at_place_of : (same : Option Place) (n : ℕ) (r : Room) (at c d l : ℕ) (go : Cont) (ts : Temps) (m : Map) (st : State) (s : Flat) → IsRoom r → d ≤ c + spare_cost → Contains w.function.ops at (same_ops r.same r.to) → TakesAt program lir again bound w live (at + length (same_ops r.same r.to)) r (address_type of) ts m d l go → st.left < bound → At w live at ts m st s → HasSame m same r ts → Follows lir m (c + 64) l (given same (λ place. go (value.At place) st)) s
       at_place_of None n r at c d l go ts m st s room cheap code t lt a around = undefined_follows lir m (c + 64) l s
       at_place_of (Some place) n r at c d l go ts m st s room cheap code t lt a around =
           let has = around.4 in
           let code2 : Contains w.function.ops at (same_ops (Some around.0) r.to) = subst (λ o. Contains w.function.ops at (same_ops o r.to)) around.2 code in
-          let t2 : TakesAt program lir again bound w live (at + 2) r of ts m d l go = subst (λ o. TakesAt program lir again bound w live (at + length (same_ops o r.to)) r of ts m d l go) around.2 t in
+          let t2 : TakesAt program lir again bound w live (at + 2) r (address_type of) ts m d l go = subst (λ o. TakesAt program lir again bound w live (at + length (same_ops o r.to)) r (address_type of) ts m d l go) around.2 t in
           let apart = room.same around.0 around.2 in
           let object = a.sees.objects.mapped has.number has.within has.lies in
           gives_follows lir w live at r.to (c + 64) (c + 58) l (flat.Number 0) ts m st s (op.Const r.to 0) _ a code2.0 refl (omega arith) (λ q kept_objects b.
-          value_follows program lir again bound w live (suc at) (at + 2) (c + 58) d l r of ts ((r.to, flat.Number 0) ∷ ts) m m go (value.At place) (flat.At has.within 0) st q (op.Bin r.to op_add around.0 r.to) lt (grows_same m) b (keeps_value r ts ts (flat.Number 0) (keeps_same r ts)) code2.2.0
+          value_follows program lir again bound w live (suc at) (at + 2) (c + 58) d l r (address_type of) ts ((r.to, flat.Number 0) ∷ ts) m m go (value.At place) (flat.At has.within 0) st q (op.Bin r.to op_add around.0 r.to) lt (grows_same m) b (keeps_value r ts ts (flat.Number 0) (keeps_same r ts)) code2.2.0
           (ap (λ x. on_two (λ u v. gives r.to (binary q.objects op_add u v)) x (temp_in ((r.to, flat.Number 0) ∷ ts) r.to)) (temp_other ts r.to around.0 (flat.Number 0) apart.1 ∙ around.3 ∙ ap (λ x. Some x) has.is)
           ∙ ap (λ x. on_two (λ u v. gives r.to (binary q.objects op_add u v)) (Some (flat.At has.within 0)) x) (temp_given ts r.to (flat.Number 0))
           ∙ ap (λ o. gives r.to (place_if has.within 0 o)) (ap (λ os. slice_get os has.within) kept_objects ∙ object.flat_is)
           ∙ ap (λ b. gives r.to (if b then Some (flat.At has.within 0) else None)) (none_below (length object.flat.bytes)))
-          (omega arith) (record { number = has.number; within = has.within; owner = has.owner; first = has.first; lies = has.lies; is = refl }) (omega arith) t2)
+          (omega arith) (tt, record { number = has.number; within = has.within; owner = has.owner; first = has.first; lies = has.lies; is = refl }) (omega arith) t2)

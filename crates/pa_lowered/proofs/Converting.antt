@@ -10,7 +10,6 @@ use Rattle.pa_integer.specs.Integers.{is_width, residue, wrapped}
 use Rattle.pa_cmean.specs.Results.{given}
 use Rattle.pa_cmean.specs.Operations.{truth, converted, nothing}
 use Rattle.pa_cmean.specs.State.{State, Cont, Again}
-use Rattle.pa_cmean.specs.ExprTypes.{type_of}
 use Rattle.pa_cmean.specs.Expressions.{eval}
 use Rattle.pa_lir.specs.declared.op.Op.TheVariants as op
 use Rattle.pa_lir.specs.declared.op.BinOp.TheVariants.{Ne}
@@ -26,7 +25,7 @@ use Rattle.pa_lower.specs.Expressions.{expr_ops}
 use Rattle.pa_lowered.specs.Objects.{Map, Grows}
 use Rattle.pa_lowered.specs.Results.{Follows}
 use Rattle.pa_lowered.specs.Calls.{Temps, Entered, At}
-use Rattle.pa_lowered.specs.Simulates.{Contains, IsIn, IsRoom, Keeps}
+use Rattle.pa_lowered.specs.Simulates.{value_type, Contains, IsIn, IsRoom, Keeps}
 use Rattle.pa_lowered.proofs.Containing.{contains_front, contains_behind}
 use Rattle.pa_lowered.proofs.Following.{grows_same, undefined_follows, tick_follows, weaker}
 use Rattle.pa_lowered.proofs.Standing.{IsVoid, has_value, keeps_same}
@@ -66,7 +65,7 @@ module _ (program : ProgramTree) (lir : Lir) (again : Again) (bound : ℕ) (w : 
   converts_follow (Of k (Function params result)) from is some v at c d l r before ts b m go st s room lt g a kept has code pays t = cc
 
   -- to void, from what isn't void, or to an integer type
-  pub convert_simulates : (e : TypedExpr) (of : TypeTree) → IsTrue (is_value of) → ((IsVoid of → ⊥) → IsVoid (type_of e) → ⊥) → SimExpr program lir again bound w live e → SimExpr program lir again bound w live (Convert e of)
+  pub convert_simulates : (e : TypedExpr) (of : TypeTree) → IsTrue (is_value of) → ((IsVoid of → ⊥) → IsVoid (value_type e) → ⊥) → SimExpr program lir again bound w live e → SimExpr program lir again bound w live (Convert e of)
   unfolding eval expr_ops
   convert_simulates e of is some is_part = record {
     by = λ n r same at c d l go ts m st s room cheap code t le a around.
@@ -75,7 +74,7 @@ module _ (program : ProgramTree) (lir : Lir) (again : Again) (bound : ℕ) (w : 
         is_part.by n r same at (c + 64) (c + 64) l _ ts m (record st { left = j }) s room (omega arith) (contains_front w.function.ops at parts (convert_ops of r.to r.free) code)
         (record {
           by = λ v ts1 m1 st1 s1 lt1 g1 a1 in1 kept1.
-              converts_follow of (type_of e) is some v (at + length parts) (c + 64) d l r ts1 ts1 m1 m1 go st1 s1 room lt1 (grows_same m1) a1 (keeps_same r ts1) in1 (contains_behind w.function.ops at parts (convert_ops of r.to r.free) code) (omega arith)
+              converts_follow of (value_type e) is some v (at + length parts) (c + 64) d l r ts1 ts1 m1 m1 go st1 s1 room lt1 (grows_same m1) a1 (keeps_same r ts1) in1 (contains_behind w.function.ops at parts (convert_ops of r.to r.free) code) (omega arith)
               (takes_at program lir again bound w live (at + length (parts ++ convert_ops of r.to r.free)) (at + length parts + length (convert_ops of r.to r.free)) r of ts1 m1 d l go (omega (arith, length-append parts (convert_ops of r.to r.free))) (takes_grown program lir again bound w live _ r of ts ts1 m m1 d l go g1 kept1 t));
         })
         (omega arith) (with_left w live at j ts m st s a) around);

@@ -7,7 +7,6 @@ use Rattle.pa_typed.specs.Typed.{TypedExpr}
 use Rattle.pa_typed.specs.Units.{ProgramTree}
 use Rattle.pa_cmean.specs.Results.{Meaning, given}
 use Rattle.pa_cmean.specs.State.{State, Cont, Again}
-use Rattle.pa_cmean.specs.ExprTypes.{type_of}
 use Rattle.pa_cmean.specs.Expressions.{eval}
 use Rattle.pa_lir.specs.declared.op.Op.{Op}
 use Rattle.pa_lir.specs.declared.function.Lir.{Lir}
@@ -19,7 +18,7 @@ use Rattle.pa_lower.specs.Expressions.{expr_ops}
 use Rattle.pa_lowered.specs.Objects.{Map, Grows, Stands}
 use Rattle.pa_lowered.specs.Results.{Follows}
 use Rattle.pa_lowered.specs.Calls.{Temps, Entered, at_place, At}
-use Rattle.pa_lowered.specs.Simulates.{Contains, IsIn, IsRoom, Keeps, HasSame, Takes, SimulatesExpr}
+use Rattle.pa_lowered.specs.Simulates.{value_type, Contains, IsIn, IsRoom, Keeps, HasSame, Takes, SimulatesExpr}
 use Rattle.pa_lowered.proofs.Containing.{contains_front, contains_behind, temp_given}
 use Rattle.pa_lowered.proofs.Following.{grows_twice, undefined_follows}
 use Rattle.pa_lowered.proofs.Stepping.{gives_follows}
@@ -58,7 +57,7 @@ module _ (program : ProgramTree) (lir : Lir) (again : Again) (bound : ℕ) (w : 
   pub both_follow : (left right : TypedExpr) → SimExpr left → SimExpr right → (n i : ℕ) (r : Room) (same : Option Place) (at c l : ℕ) (rest : List Op) (k : CValue → CValue → State → Meaning) (ts : Temps) (m : Map) (st : State) (s : Flat)
       → IsRoom r → Contains w.function.ops at (expr_ops n r left ++ (expr_ops i (next_room r) right ++ rest))
       → ((u v : CValue) (ts2 : Temps) (m2 : Map) (st2 : State) (s2 : Flat) → st2.left < bound → Grows m m2 → At w live (at + length (expr_ops n r left) + length (expr_ops i (next_room r) right)) ts2 m2 st2 s2
-      → IsIn m2 (type_of left) u (temp_in ts2 r.to) → IsIn m2 (type_of right) v (temp_in ts2 r.free) → Keeps r ts ts2 → Contains w.function.ops (at + length (expr_ops n r left) + length (expr_ops i (next_room r) right)) rest → Follows lir m2 c l (k u v st2) s2)
+      → IsIn m2 (value_type left) u (temp_in ts2 r.to) → IsIn m2 (value_type right) v (temp_in ts2 r.free) → Keeps r ts ts2 → Contains w.function.ops (at + length (expr_ops n r left) + length (expr_ops i (next_room r) right)) rest → Follows lir m2 c l (k u v st2) s2)
       → st.left ≤ bound → At w live at ts m st s → HasSame m same r ts → Follows lir m c l (eval program again same left (λ u. eval program again same right (k u)) st) s
   both_follow left right is_left is_right n i r same at c l rest k ts m st s room code then le a around =
       let first = expr_ops n r left in let second = expr_ops i (next_room r) right in
@@ -71,7 +70,7 @@ module _ (program : ProgramTree) (lir : Lir) (again : Again) (bound : ℕ) (w : 
             (record {
               by = λ v ts2 m2 st2 s2 lt2 g2 a2 in2 kept2.
                   then u v ts2 m2 st2 s2 lt2 (grows_twice m m1 m2 g1 g2) a2
-                  (in_later m1 m2 (type_of left) u (temp_in ts1 r.to) (temp_in ts2 r.to) g2 (keeps_next r ts1 ts2 kept2 r.to to_kept) in1) in2
+                  (in_later m1 m2 (value_type left) u (temp_in ts1 r.to) (temp_in ts2 r.to) g2 (keeps_next r ts1 ts2 kept2 r.to to_kept) in1) in2
                   (λ t below other spare. keeps_next r ts1 ts2 kept2 t below ∙ kept1 t below other spare)
                   (contains_behind w.function.ops (at + length first) second rest code2);
             })

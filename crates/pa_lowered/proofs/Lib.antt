@@ -12,4 +12,7 @@ pub mod Converting
 pub mod Operators
 pub mod Types
 pub mod Loading
+pub mod Octets
+pub mod Changing
+pub mod Storing
 pub mod Statements

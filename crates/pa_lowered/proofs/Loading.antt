@@ -24,11 +24,11 @@ use Rattle.pa_lower.specs.Expressions.{expr_ops}
 use Rattle.pa_lowered.specs.Objects.{Map, Grows, Stands, IsPlace, HasValue, IsObject, HasObjects}
 use Rattle.pa_lowered.specs.Results.{Follows}
 use Rattle.pa_lowered.specs.Calls.{Temps, Entered, At}
-use Rattle.pa_lowered.specs.Simulates.{Keeps}
+use Rattle.pa_lowered.specs.Simulates.{address_type, value_type, IsIn, Keeps}
 use Rattle.pa_lowered.proofs.Containing.{contains_front, contains_behind}
 use Rattle.pa_lowered.proofs.Following.{grows_same, undefined_follows, tick_follows}
 use Rattle.pa_lowered.proofs.Standing.{has_value, keeps_same}
-use Rattle.pa_lowered.proofs.Types.{same_bytes, same_sign, stands_same, not_void}
+use Rattle.pa_lowered.proofs.Types.{same_bytes, same_sign, stands_same}
 use Rattle.pa_lowered.proofs.Evaluating.{with_left, SimExpr, TakesAt, takes_grown, value_follows, given_follows}
 
 -- ---- objects of one cell
@@ -99,11 +99,11 @@ read_stands m who os qs place at t x objects is_place is_int e =
 
 module _ (program : ProgramTree) (lir : Lir) (again : Again) (bound : ℕ) (w : Entered) (live : List ℕ) where
   load_follows : (t of : TypeTree) → IsTrue (is_integer t) → same_but_const t of ≡ true → (v : CValue) (p : FlatValue) (place at next c d l : ℕ) (r : Room) (before ts : Temps) (b m : Map) (go : Cont) (st : State) (s : Flat) → st.left < bound → Grows b m → At w live at ts m st s → Keeps r before ts
-      → temp_in ts place ≡ Some p → Stands m t v p → slice_get w.function.ops at ≡ Some (load_op t r.to place) → d + 5 ≤ c → next ≡ suc at → TakesAt program lir again bound w live next r of before b d l go → Follows lir m c l (load t v go st) s
+      → temp_in ts place ≡ Some p → Stands m (address_type t) v p → slice_get w.function.ops at ≡ Some (load_op t r.to place) → d + 5 ≤ c → next ≡ suc at → TakesAt program lir again bound w live next r of before b d l go → Follows lir m c l (load t v go st) s
   unfolding load value_at act_of
   load_follows t of is same (value.At there) p place at next c d l r before ts b m go st s lt g a kept has stands code pays n k =
       given_follows lir m c l (read st.world.objects there t) (λ x. go x st) s (λ x e.
-      let y = read_stands m a.sees.who st.world.objects s.objects there p t x a.sees.objects stands is e in
+      let y = read_stands m a.sees.who st.world.objects s.objects there p t x a.sees.objects stands.1 is e in
       value_follows program lir again bound w live at next c d l r of before ts b m go x y.0 st s (load_op t r.to place) lt g a kept code
       (ap (λ o. gives r.to (option_and_then (value_in (is_signed t)) (option_and_then (bytes_from s.objects (bytes_of t)) o))) has ∙ ap (gives r.to) y.2) pays (stands_same m t of x y.0 is same y.1) n k)
   load_follows t of is same (value.Number z) p place at next c d l r before ts b m go st s lt g a kept has stands code pays n k = undefined_follows lir m c l s
@@ -111,16 +111,16 @@ module _ (program : ProgramTree) (lir : Lir) (again : Again) (bound : ℕ) (w : 
   load_follows t of is same value.Null p place at next c d l r before ts b m go st s lt g a kept has stands code pays n k = undefined_follows lir m c l s
 
   -- of an integer, in its own type but for `const`
-  pub load_simulates : (from : TypedExpr) (of : TypeTree) → IsTrue (is_integer (type_of from)) → same_but_const (type_of from) of ≡ true → SimExpr program lir again bound w live from → SimExpr program lir again bound w live (Load from of)
+  pub load_simulates : (from : TypedExpr) (of : TypeTree) → value_type from ≡ address_type (type_of from) → IsTrue (is_integer (type_of from)) → same_but_const (type_of from) of ≡ true → SimExpr program lir again bound w live from → SimExpr program lir again bound w live (Load from of)
   unfolding eval expr_ops
-  load_simulates from of is same_type is_part = record {
+  load_simulates from of places is same_type is_part = record {
     by = λ n r same at c d l go ts m st s room cheap code t le a around.
         let parts = expr_ops n r from in let loads = load_op (type_of from) r.to r.to ∷ [] in
         tick_follows lir m c l bound st s _ a.ended le (λ j lt.
         is_part.by n r same at (c + 64) (c + 64) l _ ts m (record st { left = j }) s room (omega arith) (contains_front w.function.ops at parts loads code)
         (record {
           by = λ v ts1 m1 st1 s1 lt1 g1 a1 in1 kept1.
-              let u = has_value m1 (type_of from) v (temp_in ts1 r.to) (not_void (type_of from) is) in1 in
+              let u = has_value m1 (address_type (type_of from)) v (temp_in ts1 r.to) (λ e. e) (subst (λ z. IsIn m1 z v (temp_in ts1 r.to)) places in1) in
               load_follows (type_of from) of is same_type v u.0 r.to (at + length parts) (at + length (parts ++ loads)) (c + 64) d l r ts1 ts1 m1 m1 go st1 s1 lt1 (grows_same m1) a1 (keeps_same r ts1) u.1 u.2 (contains_behind w.function.ops at parts loads code).0 (omega arith) (omega (arith, length-append parts loads))
               (takes_grown program lir again bound w live _ r of ts ts1 m m1 d l go g1 kept1 t);
         })

@@ -12,7 +12,7 @@ use Rattle.pa_lir.specs.Values.{extended}
 use Rattle.pa_lowered.specs.Objects.{IsOf}
 
 -- what holds at each width
-by_width : (P : ℕ → Type 0) → P 8 → P 16 → P 32 → P 64 → (bits : ℕ) → IsTrue (is_width bits) → P bits
+pub by_width : (P : ℕ → Type 0) → P 8 → P 16 → P 32 → P 64 → (bits : ℕ) → IsTrue (is_width bits) → P bits
 by_width P a b c d bits w = at_8 (bits == 8) refl
   where
     at_64 : (t : Bool) → (bits == 64) ≡ t → (bits == 32) ≡ false → (bits == 16) ≡ false → (bits == 8) ≡ false → P bits

@@ -12,7 +12,6 @@ use Rattle.pa_integer.specs.Integers.{is_width, is_in_range, residue, of_bits, s
 use Rattle.pa_cmean.specs.Results.{Meaning, given}
 use Rattle.pa_cmean.specs.Operations.{truth, unary, in_integer}
 use Rattle.pa_cmean.specs.State.{State, Cont, Again}
-use Rattle.pa_cmean.specs.ExprTypes.{type_of}
 use Rattle.pa_cmean.specs.Expressions.{eval}
 use Rattle.pa_lir.specs.declared.op.Op.TheVariants as op
 use Rattle.pa_lir.specs.declared.op.BinOp.TheVariants.{Eq}
@@ -28,7 +27,7 @@ use Rattle.pa_lower.specs.Expressions.{expr_ops}
 use Rattle.pa_lowered.specs.Objects.{Map, Grows, IsOf, Stands}
 use Rattle.pa_lowered.specs.Results.{Follows}
 use Rattle.pa_lowered.specs.Calls.{Temps, Entered, At}
-use Rattle.pa_lowered.specs.Simulates.{Contains, IsRoom, Keeps}
+use Rattle.pa_lowered.specs.Simulates.{value_type, Contains, IsRoom, Keeps}
 use Rattle.pa_lowered.proofs.Containing.{contains_front, contains_behind, temp_given}
 use Rattle.pa_lowered.proofs.Following.{grows_same, undefined_follows, tick_follows, weaker}
 use Rattle.pa_lowered.proofs.Stepping.{gives_follows}
@@ -108,7 +107,7 @@ module _ (program : ProgramTree) (lir : Lir) (again : Again) (bound : ℕ) (w : 
   unary_follows Complement from of some type (value.Code name) u at c d l r before ts b m go st s room lt g a kept has stands code pays t = undefined_follows lir m c l s
   unary_follows Complement from of some type value.Null u at c d l r before ts b m go st s room lt g a kept has stands code pays t = undefined_follows lir m c l s
 
-  pub unary_simulates : (o : UnaryOperation) (e : TypedExpr) (of : TypeTree) → (IsVoid (type_of e) → ⊥) → HasResult o (type_of e) of → SimExpr program lir again bound w live e → SimExpr program lir again bound w live (Unary o e of)
+  pub unary_simulates : (o : UnaryOperation) (e : TypedExpr) (of : TypeTree) → (IsVoid (value_type e) → ⊥) → HasResult o (value_type e) of → SimExpr program lir again bound w live e → SimExpr program lir again bound w live (Unary o e of)
   unfolding eval expr_ops
   unary_simulates o e of some type is_part = record {
     by = λ n r same at c d l go ts m st s room cheap code t le a around.
@@ -117,8 +116,8 @@ module _ (program : ProgramTree) (lir : Lir) (again : Again) (bound : ℕ) (w : 
         is_part.by n r same at (c + 64) (c + 64) l _ ts m (record st { left = j }) s room (omega arith) (contains_front w.function.ops at parts (unary_ops o of r.to r.free) code)
         (record {
           by = λ v ts1 m1 st1 s1 lt1 g1 a1 in1 kept1.
-              let u = has_value m1 (type_of e) v (temp_in ts1 r.to) some in1 in
-              unary_follows o (type_of e) of some type v u.0 (at + length parts) (c + 64) d l r ts1 ts1 m1 m1 go st1 s1 room lt1 (grows_same m1) a1 (keeps_same r ts1) u.1 u.2 (contains_behind w.function.ops at parts (unary_ops o of r.to r.free) code) (omega arith)
+              let u = has_value m1 (value_type e) v (temp_in ts1 r.to) some in1 in
+              unary_follows o (value_type e) of some type v u.0 (at + length parts) (c + 64) d l r ts1 ts1 m1 m1 go st1 s1 room lt1 (grows_same m1) a1 (keeps_same r ts1) u.1 u.2 (contains_behind w.function.ops at parts (unary_ops o of r.to r.free) code) (omega arith)
               (takes_at program lir again bound w live (at + length (parts ++ unary_ops o of r.to r.free)) (at + length parts + length (unary_ops o of r.to r.free)) r of ts1 m1 d l go (omega (arith, length-append parts (unary_ops o of r.to r.free))) (takes_grown program lir again bound w live _ r of ts ts1 m m1 d l go g1 kept1 t));
         })
         (omega arith) (with_left w live at j ts m st s a) around);

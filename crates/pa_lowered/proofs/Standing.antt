@@ -23,7 +23,7 @@ place_grown m k place u g h = record { number = h.number; within = h.within; own
 
 pub stands_grown : (m k : Map) (of : TypeTree) (v : CValue) (u : FlatValue) → Grows m k → Stands m of v u → Stands k of v u
 stands_grown m k of (value.Number z) u g h = h
-stands_grown m k of (value.At place) u g h = place_grown m k place u g h
+stands_grown m k of (value.At place) u g h = (h.0, place_grown m k place u g h.1)
 stands_grown m k of (value.Code name) u g h = h
 stands_grown m k of value.Null u g h = h
 

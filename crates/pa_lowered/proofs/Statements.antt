@@ -8,7 +8,6 @@ use Rattle.pa_typed.specs.Units.{ProgramTree}
 use Rattle.pa_cmean.specs.Results.{Meaning}
 use Rattle.pa_cmean.specs.Operations.{truth, nothing}
 use Rattle.pa_cmean.specs.State.{State, Exits, Again, choose}
-use Rattle.pa_cmean.specs.ExprTypes.{type_of}
 use Rattle.pa_cmean.specs.Statements.{exec, evaluate, test}
 use Rattle.pa_lir.specs.declared.op.Op.TheVariants as op
 use Rattle.pa_lir.specs.declared.function.Lir.{Lir}
@@ -20,7 +19,7 @@ use Rattle.pa_lower.specs.Statements.{Ways, whole_ops, jump_ops, branch_ops, stm
 use Rattle.pa_lowered.specs.Objects.{Map}
 use Rattle.pa_lowered.specs.Results.{Follows}
 use Rattle.pa_lowered.specs.Calls.{Temps, Entered, At}
-use Rattle.pa_lowered.specs.Simulates.{Contains, IsIn, IsRoom, IsGiven, Goes, Leads, Follow, SimulatesStmt}
+use Rattle.pa_lowered.specs.Simulates.{value_type, Contains, IsIn, IsRoom, IsGiven, Goes, Leads, Follow, SimulatesStmt}
 use Rattle.pa_lowered.proofs.Containing.{contains_front, contains_behind}
 use Rattle.pa_lowered.proofs.Following.{undefined_follows, tick_follows, weaker}
 use Rattle.pa_lowered.proofs.Stepping.{label_follows, jump_follows}
@@ -125,7 +124,7 @@ module _ (program : ProgramTree) (lir : Lir) (again : Again) (bound : ℕ) (w : 
         tick_follows lir m c l bound st s _ a.ended le (λ j lt. is_part.by n ways at (c + 64) d l x ts m (record st { left = j }) s (omega arith) code f (omega arith) (with_left w live at j ts m st s a));
   }
 
-  pub if_simulates : (e : TypedExpr) (body : TypedStmt) → (IsVoid (type_of e) → ⊥) → SimExpr program lir again bound w live e → SimStmt body → SimStmt (If e body)
+  pub if_simulates : (e : TypedExpr) (body : TypedStmt) → (IsVoid (value_type e) → ⊥) → SimExpr program lir again bound w live e → SimStmt body → SimStmt (If e body)
   unfolding exec test stmt_ops
   if_simulates e body some is_test is_body = record {
     by = λ n ways at c d l x ts m st s cheap code f le a.
@@ -142,8 +141,8 @@ module _ (program : ProgramTree) (lir : Lir) (again : Again) (bound : ℕ) (w : 
         is_test.by n whole_room None at (c + 64) (c + 64) l (λ v. choose (truth v) (exec program again body x) x.next) ts m (record st { left = j }) s whole_is_room (omega arith) (contains_front ops at tests rest code)
         (record {
           by = λ v ts1 m1 st1 s1 lt1 g1 a1 in1 kept1.
-              let u = has_value m1 (type_of e) v (temp_in ts1 0) some in1 in
-              branch_follows lir w live p 0 i (suc (suc p)) (c + 64) (c + 60) l (type_of e) v u.0 (exec program again body x) x.next ts1 m1 st1 s1 a1 u.1 u.2 branch.0 branch.2.2.1 (omega arith)
+              let u = has_value m1 (value_type e) v (temp_in ts1 0) some in1 in
+              branch_follows lir w live p 0 i (suc (suc p)) (c + 64) (c + 60) l (value_type e) v u.0 (exec program again body x) x.next ts1 m1 st1 s1 a1 u.1 u.2 branch.0 branch.2.2.1 (omega arith)
               (λ g there. label_follows lir w live (suc (suc p)) i (c + 60) l ts1 m1 st1 g _ there branch.2.2.0 (λ q here.
               is_body.by (i + 2) ways (suc (suc (suc p))) (c + 60) d l x ts1 m1 st1 q (omega arith) (contains_front ops (suc (suc (suc p))) bodies (op.Label (i + 1) ∷ []) branch.2.2.2) (follow_next (at + length (tests ++ rest)) end ways d d l x (omega arith) next f) (omega arith) here))
               (λ g there. weaker lir m1 (d + 1) l (c + 60) l _ g (omega arith) (omega arith) ((goes_jump (suc p) (i + 1) end d l x.next branch.2.0 behind.1 next).by ts1 m1 st1 g lt1 there));
@@ -151,7 +150,7 @@ module _ (program : ProgramTree) (lir : Lir) (again : Again) (bound : ℕ) (w : 
         (omega arith) (with_left w live at j ts m st s a) tt);
   }
 
-  pub if_else_simulates : (e : TypedExpr) (when_true when_false : TypedStmt) → (IsVoid (type_of e) → ⊥) → SimExpr program lir again bound w live e → SimStmt when_true → SimStmt when_false → SimStmt (IfElse e when_true when_false)
+  pub if_else_simulates : (e : TypedExpr) (when_true when_false : TypedStmt) → (IsVoid (value_type e) → ⊥) → SimExpr program lir again bound w live e → SimStmt when_true → SimStmt when_false → SimStmt (IfElse e when_true when_false)
   unfolding exec test stmt_ops
   if_else_simulates e when_true when_false some is_test is_true is_false = record {
     by = λ n ways at c d l x ts m st s cheap code f le a.
@@ -170,8 +169,8 @@ module _ (program : ProgramTree) (lir : Lir) (again : Again) (bound : ℕ) (w : 
         is_test.by n whole_room None at (c + 64) (c + 64) l (λ v. choose (truth v) (exec program again when_true x) (exec program again when_false x)) ts m (record st { left = j }) s whole_is_room (omega arith) (contains_front ops at tests rest code)
         (record {
           by = λ v ts1 m1 st1 s1 lt1 g1 a1 in1 kept1.
-              let u = has_value m1 (type_of e) v (temp_in ts1 0) some in1 in
-              branch_follows lir w live p 0 i (suc jump) (c + 64) (c + 60) l (type_of e) v u.0 (exec program again when_true x) (exec program again when_false x) ts1 m1 st1 s1 a1 u.1 u.2 branch.0 behind_zeros.2.1 (omega arith)
+              let u = has_value m1 (value_type e) v (temp_in ts1 0) some in1 in
+              branch_follows lir w live p 0 i (suc jump) (c + 64) (c + 60) l (value_type e) v u.0 (exec program again when_true x) (exec program again when_false x) ts1 m1 st1 s1 a1 u.1 u.2 branch.0 behind_zeros.2.1 (omega arith)
               (λ g there. label_follows lir w live (suc jump) i (c + 60) l ts1 m1 st1 g _ there behind_zeros.2.0 (λ q here.
               is_true.by (i + 2 + stmt_labels when_false) ways (suc (suc jump)) (c + 60) d l x ts1 m1 st1 q (omega arith) (contains_front ops (suc (suc jump)) ones (op.Label (suc i) ∷ []) behind_zeros.2.2) (follow_next (at + length (tests ++ rest)) end ways d d l x (omega arith) next f) (omega arith) here))
               (λ g there. is_false.by (i + 2) ways (suc p) (c + 60) (d + 1) l x ts1 m1 st1 g (omega arith) (contains_front ops (suc p) zeros (op.Jump (suc i) ∷ op.Label i ∷ (ones ++ op.Label (suc i) ∷ [])) branch.2)
@@ -199,7 +198,7 @@ module _ (program : ProgramTree) (lir : Lir) (again : Again) (bound : ℕ) (w : 
       none_given m (Of k (Function params result)) ts h = absurd h
 
   -- with a value of the function's type
-  pub give_simulates : (e : TypedExpr) → (IsVoid w.result → ⊥) → type_of e ≡ w.result → SimExpr program lir again bound w live e → SimStmt (Return (Some e))
+  pub give_simulates : (e : TypedExpr) → (IsVoid w.result → ⊥) → value_type e ≡ w.result → SimExpr program lir again bound w live e → SimStmt (Return (Some e))
   unfolding exec stmt_ops
   give_simulates e some typed is_part = record {
     by = λ n ways at c d l x ts m st s cheap code f le a.

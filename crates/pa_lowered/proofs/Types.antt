@@ -9,7 +9,7 @@ use Rattle.pa_ctype.specs.Values.{CValue}
 use Rattle.pa_lir.specs.Values.{FlatValue}
 use Rattle.pa_lower.specs.Operations.{bytes_of, is_signed}
 use Rattle.pa_lower.specs.Programs.{is_integer}
-use Rattle.pa_lowered.specs.Objects.{Map, IsOf, Stands}
+use Rattle.pa_lowered.specs.Objects.{IsAddress, Map, IsOf, Stands}
 use Rattle.pa_lowered.proofs.Standing.{IsVoid}
 use Rattle.pa_lowered.proofs.Numbers.{both_parts}
 
@@ -56,11 +56,23 @@ is_integer_too a b is e = same_integer (λ a b. IsTrue (is_integer b)) (λ k l. 
 of_same : (a b : TypeTree) (z : ℤ) → IsTrue (is_integer a) → same_but_const a b ≡ true → IsOf a z → IsOf b z
 of_same a b z is e = same_integer (λ a b. IsOf a z → IsOf b z) (λ k l h. h) (λ k l signed bits h. h) a b is e
 
+pub of_same_back : (a b : TypeTree) (z : ℤ) → IsTrue (is_integer a) → same_but_const a b ≡ true → IsOf b z → IsOf a z
+of_same_back a b z is e = same_integer (λ a b. IsOf b z → IsOf a z) (λ k l h. h) (λ k l signed bits h. h) a b is e
+
+pub no_address : (of : TypeTree) → IsTrue (is_integer of) → IsAddress of → ⊥
+no_address (Of k Void) is h = h
+no_address (Of k Boolean) is h = h
+no_address (Of k (Integer bits signed)) is h = h
+no_address (Of k (Pointer to schema)) is h = cc
+no_address (Of k (Array of count)) is h = h
+no_address (Of k (Struct id)) is h = h
+no_address (Of k (Function params result)) is h = h
+
 pub stands_same : (m : Map) (a b : TypeTree) (v : CValue) (u : FlatValue) → IsTrue (is_integer a) → same_but_const a b ≡ true → Stands m a v u → Stands m b v u
 stands_same m a b (value.Number z) u is e h = (of_same a b z is e h.0, h.1)
-stands_same m a b (value.At place) u is e h = h
-stands_same m a b (value.Code name) u is e h = h
-stands_same m a b value.Null u is e h = h
+stands_same m a b (value.At place) u is e h = absurd (no_address a is h.0)
+stands_same m a b (value.Code name) u is e h = absurd (no_address a is h.0)
+stands_same m a b value.Null u is e h = absurd (no_address a is h.0)
 
 pub not_void : (of : TypeTree) → IsTrue (is_integer of) → IsVoid of → ⊥
 not_void (Of k Void) is h = cc

@@ -1,6 +1,6 @@
 -- How values and objects of C's meaning stand to those of flat code (C11 6.2.6, 6.2.4).
 use Rattle.std.specs.Prelude.{◌≡◌, ◌<◌, ℕ, ℤ, true, false, ◌&&◌, IsTrue, List, [], ◌∷◌, length, slice_get, Option, Some, None}
-use Rattle.pa_ctype.specs.Types.{TypeTree, Of, Boolean, Integer}
+use Rattle.pa_ctype.specs.Types.{TypeTree, Of, Boolean, Integer, Pointer}
 use Rattle.pa_ctype.specs.Values as value
 use Rattle.pa_ctype.specs.Values.{Local, Place, CValue, Cell, object_of}
 use Rattle.pa_integer.specs.Integers.{is_width, is_in_range, residue}
@@ -37,12 +37,17 @@ pub record IsPlace (m : Map) (place : Place) (u : FlatValue) : Type 0 where
   pub lies : m number ≡ Some within
   pub is : u ≡ flat.At within 0
 
+-- a type of pointers
+abbrev pub IsAddress : TypeTree → Type 0
+IsAddress (Of constant (Pointer to schema)) = Unit {0}
+IsAddress _ = ⊥
+
 -- A number stands as its 64 bits in two's complement, null as 0, a function under the schema of plain pointers.
 abbrev pub Stands : Map → TypeTree → CValue → FlatValue → Type 0
 Stands m of (value.Number z) u = IsOf of z × (u ≡ flat.Number (residue 64 z))
-Stands m of (value.At place) u = IsPlace m place u
-Stands m of (value.Code name) u = u ≡ flat.Code name plain
-Stands m of value.Null u = u ≡ flat.Number 0
+Stands m of (value.At place) u = IsAddress of × IsPlace m place u
+Stands m of (value.Code name) u = IsAddress of × (u ≡ flat.Code name plain)
+Stands m of value.Null u = IsAddress of × (u ≡ flat.Number 0)
 
 -- ---- objects
 

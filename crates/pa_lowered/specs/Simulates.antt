@@ -1,9 +1,9 @@
 -- What it is that the flat code of an expression or a statement does what C's meaning says of it. The runs behind are given: if flat
 -- code follows them, it follows the whole.
-use Rattle.std.specs.Prelude.{◌≡◌, ◌≤◌, ◌<◌, ℕ, suc, ◌+◌, List, [], ◌∷◌, length, slice_get, Option, Some, None}
-use Rattle.pa_ctype.specs.Types.{TypeTree, Of, Void}
+use Rattle.std.specs.Prelude.{◌≡◌, ◌≤◌, ◌<◌, ℕ, suc, ◌+◌, false, List, [], ◌∷◌, length, slice_get, Option, Some, None}
+use Rattle.pa_ctype.specs.Types.{TypeTree, Of, Void, Pointer}
 use Rattle.pa_ctype.specs.Values.{Place, CValue}
-use Rattle.pa_typed.specs.Typed.{TypedExpr, TypedExprs, NoTExprs, ConsTExpr, TypedStmt}
+use Rattle.pa_typed.specs.Typed.{TypedExpr, LocalPlace, GlobalPlace, StringPlace, Same, Member, Index, Deref, TypedExprs, NoTExprs, ConsTExpr, TypedStmt}
 use Rattle.pa_typed.specs.Units.{ProgramTree}
 use Rattle.pa_cmean.specs.Results.{Meaning, undefined}
 use Rattle.pa_cmean.specs.State.{State, Cont, Exits, Again}
@@ -42,6 +42,20 @@ abbrev pub IsIn : Map → TypeTree → CValue → Option FlatValue → Type 0
 IsIn m (Of constant Void) v o = Unit {0}
 IsIn m of v o = (u : FlatValue) × (o ≡ Some u) × Stands m of v u
 
+-- the type of what an expression gives: one that stands for a place gives that place
+abbrev pub address_type : TypeTree → TypeTree
+address_type of = Of false (Pointer of None)
+
+abbrev pub value_type : TypedExpr → TypeTree
+value_type (LocalPlace local of) = address_type of
+value_type (GlobalPlace name place of) = address_type of
+value_type (StringPlace text of) = address_type of
+value_type (Same of) = address_type of
+value_type (Member owner index offset of) = address_type of
+value_type (Index left right pointer_left of) = address_type of
+value_type (Deref pointer of) = address_type of
+value_type e = type_of e
+
 -- the temporaries of a room are apart, and below the free ones
 pub record IsRoom (r : Room) : Type 0 where
   pub to : r.to < r.free
@@ -66,7 +80,7 @@ spare_cost = 20
 -- the values of arguments, each in the room behind that of the one before
 abbrev pub AreIn : Map → TypedExprs → Room → List CValue → Temps → Type 0
 AreIn m NoTExprs r vs ts = vs ≡ []
-AreIn m (ConsTExpr e es) r vs ts = (v : CValue) × (rest : List CValue) × (vs ≡ v ∷ rest) × IsIn m (type_of e) v (temp_in ts r.to) × AreIn m es (next_room r) rest ts
+AreIn m (ConsTExpr e es) r vs ts = (v : CValue) × (rest : List CValue) × (vs ≡ v ∷ rest) × IsIn m (value_type e) v (temp_in ts r.to) × AreIn m es (next_room r) rest ts
 
 -- what a function gives back, none where its type is void
 abbrev pub IsGiven : Map → TypeTree → CValue → Option ℕ → Temps → Type 0
@@ -107,7 +121,7 @@ module _ (program : ProgramTree) (lir : Lir) (again : Again) (bound : ℕ) (w : 
   pub record SimulatesExpr (e : TypedExpr) : Type 0 where
     pub by : (labels : ℕ) (r : Room) (same : Option Place) (at paid after turned : ℕ) (go : Cont) (ts : Temps) (m : Map) (st : State) (s : Flat)
         → IsRoom r → after ≤ paid + spare_cost → Contains w.function.ops at (expr_ops labels r e)
-        → Takes (at + length (expr_ops labels r e)) r (type_of e) ts m after turned go
+        → Takes (at + length (expr_ops labels r e)) r (value_type e) ts m after turned go
         → st.left ≤ bound → At w live at ts m st s → HasSame m same r ts
         → Follows lir m paid turned (eval program again same e go st) s
 
