@@ -41,6 +41,18 @@ none_twice : IsDistinct bytes_eq []
 unfolding IsDistinct
 none_twice = tt
 
+uses_distinct : (seen names : List Text) → IsDistinct bytes_eq seen → IsDistinct bytes_eq (first_uses seen names)
+uses_distinct seen [] d = d
+uses_distinct seen (name ∷ names) d =
+    on_bool (list_any (bytes_eq name) seen)
+    (λ (e : list_any (bytes_eq name) seen ≡ true). rw e (uses_distinct seen names d))
+    (λ (e : list_any (bytes_eq name) seen ≡ false).
+    rw e (uses_distinct (seen ++ name ∷ []) names (IsDistinct-push {eq = bytes_eq} nat_list_eq_equiv seen name d e)))
+
+-- each import stands once
+pub imports_distinct : (objects : List Object) → IsDistinct bytes_eq (imports_of objects)
+imports_distinct objects = uses_distinct [] (filter is_runtime (used_by_refs objects ++ used_by_slots objects)) none_twice
+
 pub few_imports : (objects : List Object) → length (imports_of objects) ≤ 2
 few_imports objects =
     let used = used_by_refs objects ++ used_by_slots objects in

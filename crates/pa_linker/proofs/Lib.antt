@@ -6,6 +6,7 @@ pub mod Laying
 pub mod OnBool
 pub mod Room
 pub mod Small
+pub mod Standing
 pub mod Tables
 pub mod Uses
 pub mod Words
