@@ -1,14 +1,13 @@
 -- The first use without a definition is that of the program.
-use Rattle.std.proofs.Common.{◌≡◌, ℕ, suc, List, [], ◌∷◌, Option, Some, None, refl, sym, ap, ◌∙◌}
+use Rattle.std.proofs.Common.{◌≡◌, ℕ, suc, List, [], ◌∷◌, Option, Some, None, refl, ap, ◌∙◌}
 use Rattle.std.specs.Prelude.{filter_map, option_map}
 use Rattle.std.specs.List.{cons_option}
 use Rattle.pa_ctype.specs.Types.{TypeTree}
 use Rattle.pa_typed.specs.Units.{ProgramTree, name_in}
 use Rattle.pa_link.specs.declared.definitions.Definitions.{Definitions}
 use Rattle.pa_link.specs.declared.parts.Part.{Part as CPart}
-use Rattle.pa_link.specs.declared.rule.LinkFault.{LinkFault}
 use Rattle.pa_link.specs.declared.rule.LinkRule.TheVariants.{L1}
-use Rattle.pa_link.specs.Linked.{part_tree, part_trees}
+use Rattle.pa_link.specs.Linked.{part_trees}
 use Rattle.pa_link.specs.Missing.{has}
 use Rattle.pa_link.specs.Program.{fault, first, is_defined, unit_use_fault}
 use Rattle.pa_link.specs.UseFault.{part_missing, at_or, use_fault}

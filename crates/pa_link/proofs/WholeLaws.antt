@@ -1,5 +1,5 @@
 -- What a program as a whole has to have, on the parts of its files, is that of the definition.
-use Rattle.std.proofs.Common.{◌≡◌, ℕ, suc, ◌+◌, ◌<◌, nat_eq, Bool, true, false, List, [], ◌∷◌, ◌++◌, length, map, Option, Some, None, refl, sym, ap, ◌∙◌, arith}
+use Rattle.std.proofs.Common.{◌≡◌, ℕ, suc, ◌+◌, ◌<◌, nat_eq, Bool, true, false, List, [], ◌∷◌, ◌++◌, length, map, Option, Some, None, refl, sym, ap, ◌∙◌}
 use Rattle.std.specs.Prelude.{flat_map, filter_map, sum_by, if◌then◌else◌, option_map}
 use Rattle.std.specs.Int.{next_multiple_of}
 use Rattle.std.specs.Option.{option_or}
@@ -14,7 +14,7 @@ use Rattle.pa_typed.specs.Units.{FunctionTree, GlobalTree, UnitTree, function_na
 use Rattle.pa_cmean.specs.Calls.{main}
 use Rattle.pa_link.specs.declared.parts.Part.{Part as CPart}
 use Rattle.pa_link.specs.declared.rule.LinkFault.{LinkFault}
-use Rattle.pa_link.specs.Limits.{globals_bytes, texts_bytes, wide_fault}
+use Rattle.pa_link.specs.Limits.{texts_bytes}
 use Rattle.pa_link.specs.Linked.{unit_of, part_trees, AreKnownParts}
 use Rattle.pa_link.specs.NameNumbers.{AreNamesOfProgram}
 use Rattle.pa_link.specs.Program.{first, local_fault, unit_local_faults}

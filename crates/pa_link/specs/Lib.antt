@@ -1,6 +1,7 @@
 pub mod Agreeing
 pub mod Declaring
 pub mod Definitions
+pub mod FileDefinitions
 pub mod Limits
 pub mod Linked
 pub mod Missing

@@ -1,4 +1,4 @@
-use Rattle.std.proofs.Common.{◌≡◌, ◌+◌, ◌<◌, ◌^◌, length}
+use Rattle.std.proofs.Common.{◌≡◌, ◌+◌, length}
 use Rattle.pa_link.specs.Whole.{wide_from}
 use Rattle.pa_link.proofs.whole.first_wide.Given as goal
 

@@ -1,4 +1,4 @@
-use Rattle.std.proofs.Common.{◌≡◌, ◌+◌, ◌<◌, ◌^◌, length}
+use Rattle.std.proofs.Common.{◌≡◌, length}
 use Rattle.pa_link.specs.Whole.{main_type}
 use Rattle.pa_link.proofs.whole.main_type.Given as goal
 

@@ -1,4 +1,4 @@
-use Rattle.std.proofs.Common.{◌≡◌, ◌+◌, ◌<◌, ◌^◌, length}
+use Rattle.std.proofs.Common.{◌≡◌, length}
 use Rattle.pa_link.specs.Whole.{type_named}
 use Rattle.pa_link.proofs.whole.type_named.Given as goal
 
