@@ -15,4 +15,5 @@ pub mod Loading
 pub mod Octets
 pub mod Changing
 pub mod Storing
+pub mod Assigning
 pub mod Statements
