@@ -1,5 +1,6 @@
 -- The types of operators and of their operands.
-use Rattle.std.specs.Prelude.{◌≡◌, ℕ, ℤ, Option, Some, None, if◌then◌else◌, IsTrue}
+use Rattle.std.specs.Prelude.{◌≡◌, ◌≤◌, ◌^◌, ℕ, ℤ, Option, Some, None, if◌then◌else◌, IsTrue}
+use Rattle.std.specs.Int.RustNames.{unsigned_abs}
 use Rattle.pa_ctype.specs.Types.{TypeTree, Pointer}
 use Rattle.pa_ctype.specs.Values.{CValue}
 use Rattle.pa_pac.specs.declared.schema.Schema.{Schema}
@@ -40,3 +41,8 @@ integer_form _ = None
 -- what a value becomes in any type of pointers
 abbrev pub IsConvertedPointer : CValue → Option CValue → Type 0
 IsConvertedPointer value answer = (to : TypeTree) (schema : Option Schema) → answer ≡ converted_to (Pointer to schema) value
+
+-- a number that the integer types have room for, with either sign
+abbrev pub IsShort : Value → Type 0
+IsShort (Number n) = unsigned_abs n ≤ 2 ^ 64
+IsShort _ = Unit {0}

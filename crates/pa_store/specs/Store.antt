@@ -1,11 +1,16 @@
 -- All objects of a run as those of C.
-use Rattle.std.specs.Prelude.{◌≡◌, ℕ, ◌≤◌, List, [], ◌∷◌, map}
+use Rattle.std.specs.Prelude.{◌≡◌, ℕ, ◌≤◌, List, [], ◌∷◌, map, Some}
 use Rattle.pa_ctype.specs.Values as c
+use Rattle.pa_ctype.specs.Types.{TypeTree}
+use Rattle.pa_ctype.specs.Layouts.{Table}
+use Rattle.pa_cmean.specs.Operations.{bytes_of}
 use Rattle.pa_ctype.specs.Tables.{TypeTable, AreApart}
 use Rattle.pa_store.specs.declared.value.Owner.{Owner}
+use Rattle.pa_store.specs.declared.value.Place.{Place}
+use Rattle.pa_store.specs.declared.value.Value.{Value}
 use Rattle.pa_store.specs.declared.objects.Object.{Object}
 use Rattle.pa_store.specs.declared.store.Objects.{Objects}
-use Rattle.pa_store.specs.Views.{owner_bound}
+use Rattle.pa_store.specs.Views.{owner_bound, names_bound}
 use Rattle.pa_store.specs.Objects.{object_tree, IsObject}
 
 -- in the order in which they came to life
@@ -28,3 +33,15 @@ AreObjects t store = AreEntries t store.objects.entries
 -- so for any table of which they are, as this owner is, and names that are told apart
 abbrev pub ForStores : Objects → Owner → (TypeTable → (ℕ → List ℕ) → Type 0) → Type 0
 ForStores store owner P = (t : TypeTable) (names : ℕ → List ℕ) → AreObjects t store → owner_bound owner ≤ t.names → AreApart t.names names → P t names
+
+-- so for two places, or two values
+abbrev pub ForPlaces : Objects → Place → Place → (TypeTable → (ℕ → List ℕ) → Type 0) → Type 0
+ForPlaces store a b P =
+    (t : TypeTable) (names : ℕ → List ℕ) → AreObjects t store → owner_bound a.owner ≤ t.names → owner_bound b.owner ≤ t.names → AreApart t.names names → P t names
+
+abbrev pub ForOperands : Objects → Value → Value → (TypeTable → (ℕ → List ℕ) → Type 0) → Type 0
+ForOperands store a b P = (t : TypeTable) (names : ℕ → List ℕ) → AreObjects t store → names_bound a ≤ t.names → names_bound b ≤ t.names → AreApart t.names names → P t names
+
+-- so for any type with so many bytes
+abbrev pub ForElements : ℕ → (Table → TypeTree → Type 0) → Type 0
+ForElements size P = (table : Table) (of : TypeTree) → bytes_of table of ≡ Some size → P table of
