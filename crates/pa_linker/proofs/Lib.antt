@@ -3,6 +3,7 @@ pub mod Clearing
 pub mod Few
 pub mod Fits
 pub mod Laying
+pub mod Marking
 pub mod OnBool
 pub mod Room
 pub mod Small
