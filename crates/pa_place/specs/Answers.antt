@@ -47,11 +47,11 @@ GivesElement t result place left right pointer_left number =
 
 -- ---- subscripts (6.5.2.1p1)
 
-abbrev pub is_pointer_left : Table → TypeTree → TypeTree → Bool
-is_pointer_left table left right = is_movable table left && is_integer right
+abbrev pub pointer_left : Table → TypeTree → TypeTree → Bool
+pointer_left table left right = is_movable table left && is_integer right
 
-abbrev pub is_pointer_right : Table → TypeTree → TypeTree → Bool
-is_pointer_right table left right = is_integer left && is_movable table right
+abbrev pub pointer_right : Table → TypeTree → TypeTree → Bool
+pointer_right table left right = is_integer left && is_movable table right
 
 -- ---- members
 

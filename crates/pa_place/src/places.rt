@@ -3,7 +3,7 @@
 ghost use Rattle.std.specs.Prelude.{◌≡◌, ◌<◌, length, IfOk};
 ghost use Rattle.pa_convert.specs.Grows.{Grows};
 ghost use Rattle.pa_ctype.specs.Tables.{ForStructs};
-ghost use Rattle.pa_place.specs.Answers as answers;
+ghost use Rattle.pa_place.specs.Answers.{pointer_left, pointer_right};
 ghost use Rattle.pa_place.specs.Answers.{GivesType, IsOfTree, IsIndexed, GivesElement};
 ghost use Rattle.pa_rexpr.specs.Places as spec;
 ghost use Rattle.pa_typed.specs.Typed as to;
@@ -111,7 +111,7 @@ fn element_of(
 fn is_pointer_left(types: &Types, left: u32, right: u32) -> bool
     requires left { left < length types.now.nodes }
     requires right { right < length types.now.nodes }
-    ensures { ForStructs types.now (λ table m. result ≡ answers.is_pointer_left table (m left) (m right)) }
+    ensures { ForStructs types.now (λ table m. result ≡ pointer_left table (m left) (m right)) }
 {
     is_movable(types, left) && is_integer(types, right)
 }
@@ -120,7 +120,7 @@ fn is_pointer_left(types: &Types, left: u32, right: u32) -> bool
 fn is_pointer_right(types: &Types, left: u32, right: u32) -> bool
     requires left { left < length types.now.nodes }
     requires right { right < length types.now.nodes }
-    ensures { ForStructs types.now (λ table m. result ≡ answers.is_pointer_right table (m left) (m right)) }
+    ensures { ForStructs types.now (λ table m. result ≡ pointer_right table (m left) (m right)) }
 {
     is_integer(types, left) && is_movable(types, right)
 }

@@ -25,7 +25,7 @@ enum Answer {
 }
 
 /// The answer without its tree.
-fn answer(given: Result<TypedForm, Fault<TypeRule>>) -> Answer {
+fn answer_of(given: Result<TypedForm, Fault<TypeRule>>) -> Answer {
     match given {
         Ok(form) => Answer::Form {
             of: form.of,
@@ -54,9 +54,9 @@ fn form(types: &Types, of: u32, category: Category) -> Option<TypedForm>
     })
 }
 
-/// The types of the rows, by their numbers.
+/// The types of the rows, by their row_types.
 #[derive(Clone, Copy)]
-struct Numbers {
+struct RowTypes {
     void: u32,
     int: u32,
     long: u32,
@@ -67,7 +67,7 @@ struct Numbers {
 }
 
 /// The types of the rows: a struct without a body among them, and a pointer to a function without parameters.
-fn numbers(types: &mut Types) -> Result<Numbers, Memory>
+fn row_types(types: &mut Types) -> Result<RowTypes, Memory>
     requires { length types.old.structs < 2 ^ 32 }
 {
     let id = types.declare()?;
@@ -79,7 +79,7 @@ fn numbers(types: &mut Types) -> Result<Numbers, Memory>
     let function = types.put(Node::Returns { of: int })?;
     let function_pointer = pointer_to(types, function)?;
     let long = integer(types, 64, true)?;
-    Ok(Numbers {
+    Ok(RowTypes {
         void,
         int,
         long,
@@ -104,13 +104,13 @@ fn cast_answer(alloc: Global, types: &mut Types, row: &CastRow) -> Option<Answer
     if row.wanted as usize >= types.len() {
         return None;
     }
-    Some(answer(cast(alloc, types, PLACE, row.wanted, form)))
+    Some(answer_of(cast(alloc, types, PLACE, row.wanted, form)))
 }
 
 #[test]
 fn casts_go_between_integers_and_between_pointers_to_objects(rt: HostRuntime) -> Result<(), Fail> {
     let mut types = Types::new(rt.alloc(), 0);
-    let n = numbers(&mut types)?;
+    let n = row_types(&mut types)?;
     let rows = [
         CastRow {
             wanted: n.long,
@@ -207,13 +207,13 @@ struct OneRow {
 /// What `*` answers. None: there is no such type.
 fn indirection_answer(alloc: Global, types: &mut Types, row: &OneRow) -> Option<Answer> {
     let form = form(types, row.of, row.category)?;
-    Some(answer(indirection(alloc, types, PLACE, form)))
+    Some(answer_of(indirection(alloc, types, PLACE, form)))
 }
 
 #[test]
 fn a_pointer_points_to_what_it_says(rt: HostRuntime) -> Result<(), Fail> {
     let mut types = Types::new(rt.alloc(), 0);
-    let n = numbers(&mut types)?;
+    let n = row_types(&mut types)?;
     let lvalue = Answer::Form {
         of: n.int,
         category: Category::Lvalue,
@@ -256,13 +256,13 @@ fn a_pointer_points_to_what_it_says(rt: HostRuntime) -> Result<(), Fail> {
 /// What `&` answers. None: there is no such type.
 fn address_answer(alloc: Global, types: &mut Types, row: &OneRow) -> Option<Answer> {
     let form = form(types, row.of, row.category)?;
-    Some(answer(address(alloc, types, PLACE, form)))
+    Some(answer_of(address(alloc, types, PLACE, form)))
 }
 
 #[test]
 fn only_places_and_functions_have_addresses(rt: HostRuntime) -> Result<(), Fail> {
     let mut types = Types::new(rt.alloc(), 0);
-    let n = numbers(&mut types)?;
+    let n = row_types(&mut types)?;
     let pointer = Answer::Form {
         of: n.int_pointer,
         category: Category::Value,
@@ -318,7 +318,7 @@ fn size_answer(types: &mut Types, of: u32) -> Option<Result<u64, TypeRule>> {
 #[test]
 fn complete_objects_have_sizes(rt: HostRuntime) -> Result<(), Fail> {
     let mut types = Types::new(rt.alloc(), 0);
-    let n = numbers(&mut types)?;
+    let n = row_types(&mut types)?;
     assert_eq!(rt; size_answer(&mut types, n.int), Some(Ok(4)));
     assert_eq!(rt; size_answer(&mut types, n.int_pointer), Some(Ok(8)));
     assert_eq!(rt; size_answer(&mut types, n.void), Some(Err(TypeRule::C11)));
@@ -341,13 +341,13 @@ struct SubscriptRow {
 fn subscript_answer(alloc: Global, types: &Types, row: &SubscriptRow) -> Option<Answer> {
     let left = form(types, row.left, Category::Value)?;
     let right = form(types, row.right, Category::Value)?;
-    Some(answer(subscript(alloc, types, PLACE, left, right)))
+    Some(answer_of(subscript(alloc, types, PLACE, left, right)))
 }
 
 #[test]
 fn one_side_of_a_subscript_is_a_pointer(rt: HostRuntime) -> Result<(), Fail> {
     let mut types = Types::new(rt.alloc(), 0);
-    let n = numbers(&mut types)?;
+    let n = row_types(&mut types)?;
     let element = Answer::Form {
         of: n.int,
         category: Category::Lvalue,
