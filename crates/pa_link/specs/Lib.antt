@@ -1,4 +1,5 @@
 pub mod Agreeing
+pub mod Declarations
 pub mod Declaring
 pub mod Definitions
 pub mod FileDefinitions

@@ -1,6 +1,7 @@
 //! Programs of several files. Definitions stand in `specs/`.
 #![tactic(auto)]
 
+mod declarations;
 mod declared;
 mod definitions;
 mod known;
