@@ -2,9 +2,11 @@ pub mod ByWord
 pub mod Clearing
 pub mod Few
 pub mod Fits
+pub mod Fixing
 pub mod Laying
 pub mod Marking
 pub mod OnBool
+pub mod Rising
 pub mod Room
 pub mod Small
 pub mod Standing

@@ -7,33 +7,8 @@ use Rattle.pa_object.specs.declared.object.Object.{Object}
 use Rattle.pa_object.specs.declared.object.Mark.{Mark}
 use Rattle.pa_object.specs.Linkable.{Text, Linkable, IsCode, Ascends, names, functions_of, data_of}
 use Rattle.pa_linker.specs.Layout.{start_words, words_after, marks_behind, marks_from, marks_of}
+use Rattle.pa_linker.proofs.Rising.{RisesFrom, lower, rises, ascends}
 use Rattle.pa_linker.proofs.Words.{least}
-
--- ---- numbers that rise
-
--- each is above the one before, and the first is no less than this
-abbrev RisesFrom : (low : ℕ) → List ℕ → Type 0
-RisesFrom low [] = Unit {0}
-RisesFrom low (x ∷ xs) = (low ≤ x) × RisesFrom (x + 1) xs
-
-lower : (low high : ℕ) (xs : List ℕ) → low ≤ high → RisesFrom high xs → RisesFrom low xs
-lower low high [] h r = tt
-lower low high (x ∷ xs) h r = let here = r.0 in (omega arith, r.1)
-
-rises_after : (x : ℕ) (xs : List ℕ) → Ascends (x ∷ xs) → RisesFrom (x + 1) xs
-unfolding Ascends
-rises_after x [] h = tt
-rises_after x (y ∷ xs) h = let here = h.0 in (omega arith, rises_after y xs h.1)
-
-rises : (xs : List ℕ) → Ascends xs → RisesFrom 0 xs
-rises [] h = tt
-rises (x ∷ xs) h = (omega arith, rises_after x xs h)
-
-ascends : (low : ℕ) (xs : List ℕ) → RisesFrom low xs → Ascends xs
-unfolding Ascends
-ascends low [] r = tt
-ascends low (x ∷ []) r = tt
-ascends low (x ∷ y ∷ xs) r = let here = r.1.0 in (omega arith, ascends (x + 1) (y ∷ xs) r.1)
 
 -- ---- marks
 

@@ -47,7 +47,7 @@ forward F D (Address name (pos addend)) h = tt
 forward F D (Address name (negsuc addend)) h = h
 forward F D (Signed name schema) h = tt
 
-slots_inside : (F D : List Named) (size : ℕ) (slots : List Slot) → AllByRecursion (IsSlot F D size) slots → SlotsInside size slots
+pub slots_inside : (F D : List Named) (size : ℕ) (slots : List Slot) → AllByRecursion (IsSlot F D size) slots → SlotsInside size slots
 slots_inside F D size [] h = tt
 slots_inside F D size (slot ∷ slots) h = (h.0.inside, slots_inside F D size slots h.1)
 
